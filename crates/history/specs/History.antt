@@ -1,0 +1,113 @@
+-- A history of calls on words and its agreement with the trial book (document 00, term 3). The run on words uses
+-- the definitions that the contracts of the calls cite (Rattle.archive.specs.Lent), so the claim speaks of the code.
+use Prim.Native.Nat.{ℕ, min}
+use mathlib.Core.Path.{_≡_}
+use mathlib.Core.List.{List, [], _∷_, _++_, map}
+use lib.ListN.{length, take, drop}
+use Rattle.words.specs.Archive.{Trial, Row, Shape, Archive, point, reference, points}
+use Rattle.words.specs.Layout.{layout, extent}
+use Rattle.hypervolume.specs.Counts.{total, contribution}
+use Rattle.archive.specs.Calls.{place}
+use Rattle.archive.specs.Lent
+use Rattle.archive.specs.Lent.{Outcome, start}
+use Rattle.history.specs.Book.{Book, Request, Reply, Turn, book-turn, opened}
+
+-- A call of the list: "each call is lent the words that the last one left, or only a first part of them" (lent, how
+-- many), with any arguments, and for a reduce any log words.
+pub data Call : Type 0 where
+  insert : (lent : ℕ) (trial : Trial) → Call
+  remove : (lent : ℕ) (number : ℕ) → Call
+  reduce : (lent : ℕ) (k : ℕ) (log : List ℕ) → Call
+
+-- What the call does to the words that it is lent.
+unfoldable pub on-words : Call → List ℕ → Outcome
+on-words (insert lent t) w = Lent.insert (take lent w) t
+on-words (remove lent n) w = Lent.remove (take lent w) n
+on-words (reduce lent k log) w = Lent.reduce (take lent w) k log
+
+unfoldable pub lent-of : Call → ℕ
+lent-of (insert lent t) = lent
+lent-of (remove lent n) = lent
+lent-of (reduce lent k log) = lent
+
+-- The words after the call: the part lent as the call leaves it, then the rest.
+unfoldable pub words-after : Call → List ℕ → List ℕ
+words-after c w = on-words c w .words ++ drop (lent-of c) w
+
+-- What a call answered, and its log as it then is.
+pub record Answered : Type 0 where
+  pub refusal : ℕ
+  pub value : ℕ
+  pub log : List ℕ
+
+unfoldable pub answered : Outcome → Answered
+answered o = record { refusal = o .refusal; value = o .value; log = o .log }
+
+-- The words after a list of calls, and all their answers.
+unfoldable pub run-words : List Call → List ℕ → List ℕ
+run-words [] w = w
+run-words (c ∷ calls) w = run-words calls (words-after c w)
+
+unfoldable pub run-answers : List Call → List ℕ → List Answered
+run-answers [] w = []
+run-answers (c ∷ calls) w = answered (on-words c w) ∷ run-answers calls (words-after c w)
+
+-- What the book is fed of a call on words of this length: of the slices lent only the lengths.
+unfoldable pub request : ℕ → Call → Request
+request size (insert lent t) = Request.insert (min lent size) t
+request size (remove lent n) = Request.remove (min lent size) n
+request size (reduce lent k log) = Request.reduce (min lent size) k (length log)
+
+-- The log that a call brings.
+unfoldable pub log-of : Call → List ℕ
+log-of (insert lent t) = []
+log-of (remove lent n) = []
+log-of (reduce lent k log) = log
+
+-- The answer that the book's reply asks for: "the noted pairs in order, then its words as before".
+unfoldable pub expected : Call → Reply → Answered
+expected c r =
+    record { refusal = r .refusal; value = r .value; log = r .notes ++ drop (length (r .notes)) (log-of c) }
+
+-- The book after a list of calls, and the answers it asks for.
+unfoldable pub run-book : ℕ → List Call → Book → Book
+run-book size [] b = b
+run-book size (c ∷ calls) b = run-book size calls (book-turn (request size c) b .book)
+
+unfoldable pub book-answers : ℕ → List Call → Book → List Answered
+book-answers size [] b = []
+book-answers size (c ∷ calls) b =
+    expected c (book-turn (request size c) b .reply) ∷ book-answers size calls (book-turn (request size c) b .book)
+
+-- The archive that holds exactly these trials, with total and contributions counted on them alone.
+unfoldable pub counted : Shape → List Trial → Archive
+counted s ts =
+    record {
+      shape = s;
+      sum = total (reference s) (points ts);
+      rows = map (λ t. record { trial = t; kept = contribution (reference s) (points ts) (point t) }) ts;
+    }
+
+-- The trials in the archive's order.
+unfoldable pub sorted : List Trial → List Trial
+sorted [] = []
+sorted (t ∷ ts) = place (λ u. u) t (sorted ts)
+
+unfoldable pub shape-of-book : Book → Shape
+shape-of-book b = record { capacity = b .capacity; rx = b .rx; ry = b .ry; rz = b .rz }
+
+-- "A fresh archive holding the surviving trials has the words set out above, with the book's reference, capacity
+-- and trials, and with total and contributions counted on those trials alone."
+unfoldable pub fresh : Book → List ℕ
+fresh b = layout (counted (shape-of-book b) (sorted (b .trials)))
+
+-- Term 3's claim about a whole list of calls, after a start with these arguments on these words: the words before
+-- 8 + 5 × capacity are those of a fresh archive of the book's survivors, the words behind are untouched, and every
+-- answer and every log is the book's.
+pub record Agrees (before : List ℕ) (s : Shape) (calls : List Call) : Type 0 where
+  pub words :
+      take (extent (s .capacity)) (run-words calls (start before s .words)) ≡ fresh (run-book (length before) calls (opened (s .capacity) (s .rx) (s .ry) (s .rz)))
+  pub words-behind :
+      drop (extent (s .capacity)) (run-words calls (start before s .words)) ≡ drop (extent (s .capacity)) before
+  pub answers :
+      run-answers calls (start before s .words) ≡ book-answers (length before) calls (opened (s .capacity) (s .rx) (s .ry) (s .rz))

@@ -1,0 +1,112 @@
+-- Law 7, the outermost axis: among points that are at most p on the first axis, each count of p is the edge on
+-- that axis times the count on the other axes. Law 8, its last part: two adjacent axes may be swapped, so that
+-- any axis can be made the first.
+use Prim.Native.Nat.{ℕ, zero, suc, _+_, _-_, _*_, _≤_, _<_, zero-le}
+use mathlib.Core.Path.{_≡_, refl, sym, ap, _∙_, fun-ext}
+use mathlib.Core.Bool.{Bool, true, false}
+use mathlib.Core.List.{List, [], _∷_, _++_, map}
+use native.Mathlib.Nat.{zero-add, add-zero, le-trans, le-refl}
+use native.Mathlib.Omega.{arith}
+use lib.Dec.{leb, eqb}
+use lib.ListN.{length}
+use borrow.Author.Tests.{leb-true, le-leb, lt-leb}
+use Rattle.hypervolume.specs.Cells.{both, holds, dominates, sum, cells, count}
+use Rattle.hypervolume.specs.Counts.{cover, total, contribution, joint, gain}
+use Rattle.hypervolume.proofs.Sums.{sum-ext, sum-swap, cells-ext}
+use Rattle.hypervolume.proofs.Tests.{both-comm, both-assoc}
+use Rattle.hypervolume.proofs.Dominance.{first, rest, dominates-cons}
+use Rattle.hypervolume.proofs.Counting.{layered}
+
+-- Every point is at most z on the first axis.
+unfoldable pub FirstAtMost : ℕ → List (List ℕ) → Type 0
+FirstAtMost z [] = Unit {0}
+FirstAtMost z (t ∷ trials) = (first t ≤ z) × FirstAtMost z trials
+
+-- from layer z on, a point that is at most z there dominates what it dominates on the other axes
+pub dominates-rest : (z i : ℕ) (c t : List ℕ) → first t ≤ z → z ≤ i → dominates t (i ∷ c) ≡ dominates (rest t) c
+unfolding both
+dominates-rest z i c t p l = rw (dominates-cons t i c, le-leb (first t) i (le-trans p l))
+
+dominates-not : (z i : ℕ) (c p : List ℕ) → i < z → dominates (z ∷ p) (i ∷ c) ≡ false
+unfolding both dominates
+dominates-not z i c p l = rw (lt-leb z i l)
+
+pub cover-rest : (z i : ℕ) (c : List ℕ) (trials : List (List ℕ)) → FirstAtMost z trials → z ≤ i → cover trials (i ∷ c) ≡ cover (map rest trials) c
+unfolding cover FirstAtMost
+cover-rest z i c [] h l = refl
+cover-rest z i c (t ∷ trials) h l =
+    rw (dominates-rest z i c t (h .0) l, cover-rest z i c trials (h .1) l)
+
+-- Law 7 for a gain and for a joint contribution.
+pub gain-layers : (r : ℕ) (rs : List ℕ) (trials : List (List ℕ)) (z : ℕ) (p : List ℕ) → FirstAtMost z trials → gain (r ∷ rs) trials (z ∷ p) ≡ (r - z) * gain rs (map rest trials) p
+unfolding gain count both holds rest first
+gain-layers r rs trials z p h =
+    layered r z rs _ _
+    (λ i c l. rw (dominates-not z i c p l))
+    (λ i c l. rw (dominates-rest z i c (z ∷ p) (le-refl z) l, cover-rest z i c trials h l))
+
+pub joint-layers : (r : ℕ) (rs : List ℕ) (trials : List (List ℕ)) (z : ℕ) (p t : List ℕ) → FirstAtMost z trials → first t ≤ z → joint (r ∷ rs) ((z ∷ p) ∷ trials) (z ∷ p) t ≡ (r - z) * joint rs (p ∷ map rest trials) p (rest t)
+unfolding joint count both holds rest first cover
+joint-layers r rs trials z p t h ht =
+    layered r z rs _ _
+    (λ i c l. rw (dominates-not z i c p l))
+    (λ i c l. rw (dominates-rest z i c (z ∷ p) (le-refl z) l, dominates-rest z i c t ht l, cover-rest z i c trials h l))
+
+-- Two adjacent axes swapped: those at places k and k + 1.
+unfoldable pub swapAt : ℕ → List ℕ → List ℕ
+swapAt zero p = first (rest p) ∷ first p ∷ rest (rest p)
+swapAt (suc k) p = first p ∷ swapAt k (rest p)
+
+both-turn : (a b c : Bool) → both a (both b c) ≡ both b (both a c)
+unfolding both
+both-turn true b c = refl
+both-turn false true c = refl
+both-turn false false c = refl
+
+pub dominates-swap : (k : ℕ) (p c : List ℕ) → k + 2 ≤ length c → dominates (swapAt k p) (swapAt k c) ≡ dominates p c
+unfolding swapAt first rest dominates
+dominates-swap k p [] l = absurd (let no′ : ⊥ = omega arith in no′)
+dominates-swap zero p (i ∷ []) l = absurd (let no′ : ⊥ = omega arith in no′)
+dominates-swap zero p (i ∷ j ∷ c) l =
+    rw (dominates-cons p i (j ∷ c), dominates-cons (rest p) j c)
+    (both-turn (leb (first (rest p)) j) (leb (first p) i) (dominates (rest (rest p)) c))
+dominates-swap (suc k) p (i ∷ c) l =
+    rw (dominates-cons p i c)
+    (ap (both (leb (first p) i)) (dominates-swap k (rest p) c (omega arith)))
+
+pub cover-swap : (k : ℕ) (trials : List (List ℕ)) (c : List ℕ) → k + 2 ≤ length c → cover (map (swapAt k) trials) (swapAt k c) ≡ cover trials c
+unfolding cover
+cover-swap k [] c l = refl
+cover-swap k (t ∷ trials) c l = rw (dominates-swap k t c l, cover-swap k trials c l)
+
+cells-swap : (front back : List ℕ) (a b : ℕ) (f g : List ℕ → ℕ) → ((c : List ℕ) → length front + 2 ≤ length c → g (swapAt (length front) c) ≡ f c) → cells (front ++ (b ∷ a ∷ back)) g ≡ cells (front ++ (a ∷ b ∷ back)) f
+unfolding cells swapAt first rest
+cells-swap [] back a b f g h =
+    sum-swap b a (λ j i. cells back (λ c. g (j ∷ i ∷ c)))
+    ∙ sum-ext a _ _ (λ i p. sum-ext b _ _ (λ j q. cells-ext back _ _ (λ c. h (i ∷ j ∷ c) (omega arith))))
+cells-swap (r ∷ front) back a b f g h =
+    sum-ext r _ _ (λ i p. cells-swap front back a b (λ c. f (i ∷ c)) (λ c. g (i ∷ c)) (λ c l. h (i ∷ c) (omega arith)))
+
+-- Every count of the points with two axes swapped, under the reference with these swapped, is the count itself.
+pub total-swap : (front back : List ℕ) (a b : ℕ) (trials : List (List ℕ)) → total (front ++ (b ∷ a ∷ back)) (map (swapAt (length front)) trials) ≡ total (front ++ (a ∷ b ∷ back)) trials
+unfolding total count
+total-swap front back a b trials =
+    cells-swap front back a b _ _ (λ c l. rw (cover-swap (length front) trials c l))
+
+pub contribution-swap : (front back : List ℕ) (a b : ℕ) (trials : List (List ℕ)) (t : List ℕ) → contribution (front ++ (b ∷ a ∷ back)) (map (swapAt (length front)) trials) (swapAt (length front) t) ≡ contribution (front ++ (a ∷ b ∷ back)) trials t
+unfolding contribution count
+contribution-swap front back a b trials t =
+    cells-swap front back a b _ _
+    (λ c l. rw (dominates-swap (length front) t c l, cover-swap (length front) trials c l))
+
+pub joint-swap : (front back : List ℕ) (a b : ℕ) (trials : List (List ℕ)) (s t : List ℕ) → joint (front ++ (b ∷ a ∷ back)) (map (swapAt (length front)) trials) (swapAt (length front) s) (swapAt (length front) t) ≡ joint (front ++ (a ∷ b ∷ back)) trials s t
+unfolding joint count
+joint-swap front back a b trials s t =
+    cells-swap front back a b _ _
+    (λ c l. rw (dominates-swap (length front) s c l, dominates-swap (length front) t c l, cover-swap (length front) trials c l))
+
+pub gain-swap : (front back : List ℕ) (a b : ℕ) (trials : List (List ℕ)) (p : List ℕ) → gain (front ++ (b ∷ a ∷ back)) (map (swapAt (length front)) trials) (swapAt (length front) p) ≡ gain (front ++ (a ∷ b ∷ back)) trials p
+unfolding gain count
+gain-swap front back a b trials p =
+    cells-swap front back a b _ _
+    (λ c l. rw (dominates-swap (length front) p c l, cover-swap (length front) trials c l))

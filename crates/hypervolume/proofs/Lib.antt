@@ -1,0 +1,8 @@
+-- Laws of the counts, each once, for any number of axes.
+pub mod Sums
+pub mod Tests
+pub mod Dominance
+pub mod Counting
+pub mod Axes
+pub mod Points
+pub mod Examples

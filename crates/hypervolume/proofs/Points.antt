@@ -1,0 +1,140 @@
+-- The loops over the axes in `Point`: each goes through n axes in turn. What it has so far is stated for any n.
+use Prim.Native.Nat.{ℕ, zero, suc, _+_, _-_, _*_, _^_, _≤_, _<_, max}
+use mathlib.Core.Path.{_≡_, refl, sym, ap, _∙_}
+use mathlib.Core.Bool.{Bool, true, false}
+use mathlib.Core.List.{List, [], _∷_}
+use native.Mathlib.Nat.{one-mul, mul-one, mul-assoc, mul-le-mul, pow-suc, pow-le-pow-right}
+use native.Mathlib.Numerals.{add-one}
+use native.Mathlib.Omega.{arith}
+use lib.Dec.{leb}
+use lib.ListN.{length, getD, drop, set}
+use lib.Seq.{drop-cons, drop-length}
+use borrow.Author.Tests.{le-leb, lt-leb}
+use Rattle.hypervolume.specs.Cells.{both, dominates, join, edges}
+
+-- Two points of n axes, of which the first have been gone through.
+pub record Along (n : ℕ) (p q : List ℕ) (axis : ℕ) : Type 0 where
+  pub left : length p ≡ n
+  pub right : length q ≡ n
+  pub within : axis ≤ n
+
+along-more : {n : ℕ} {p q : List ℕ} {axis : ℕ} → Along n p q axis → axis < n → Along n p q (axis + 1)
+along-more h l = record { left = h .left; right = h .right; within = omega arith }
+
+-- The upper corner: p with its first k axes raised to those of q.
+unfoldable pub raised : ℕ → List ℕ → List ℕ → List ℕ
+raised zero p q = p
+raised (suc k) [] q = []
+raised (suc k) (x ∷ p) [] = x ∷ p
+raised (suc k) (x ∷ p) (y ∷ q) = max x y ∷ raised k p q
+
+pub record Joined (n : ℕ) (p q corner : List ℕ) (axis : ℕ) : Type 0 where
+  pub along : Along n p q axis
+  pub so-far : corner ≡ raised axis p q
+
+pub joined-none : (n : ℕ) (p q : List ℕ) → length p ≡ n → length q ≡ n → Joined n p q p 0
+unfolding raised
+joined-none n p q e f = record { along = record { left = e; right = f; within = omega arith }; so-far = refl }
+
+raised-more : (k : ℕ) (p q : List ℕ) → k < length p → k < length q → set (raised k p q) k (max (getD (raised k p q) k 0) (getD q k 0)) ≡ raised (suc k) p q
+unfolding raised
+raised-more k [] q l m = absurd (let no′ : ⊥ = omega arith in no′)
+raised-more k (x ∷ p) [] l m = absurd (let no′ : ⊥ = omega arith in no′)
+raised-more zero (x ∷ p) (y ∷ q) l m = refl
+raised-more (suc k) (x ∷ p) (y ∷ q) l m = ap (λ t. max x y ∷ t) (raised-more k p q (omega arith) (omega arith))
+
+pub joined-more : {n : ℕ} {p q corner : List ℕ} {axis larger : ℕ} → Joined n p q corner axis → axis < n → larger ≡ max (getD corner axis 0) (getD q axis 0) → Joined n p q (set corner axis larger) (axis + 1)
+joined-more {n} {p} {q} {corner} {axis} h l e =
+    let m : axis < length p = omega arith in
+    let o : axis < length q = omega arith in
+    record { along = along-more (h .along) l; so-far = rw (e, h .so-far, add-one axis) (raised-more axis p q m o) }
+
+raised-end : (p q : List ℕ) → length p ≡ length q → raised (length p) p q ≡ join p q
+unfolding raised join
+raised-end [] [] e = refl
+raised-end [] (y ∷ q) e = absurd (let no′ : ⊥ = omega arith in no′)
+raised-end (x ∷ p) [] e = refl
+raised-end (x ∷ p) (y ∷ q) e = ap (λ t. max x y ∷ t) (raised-end p q (omega arith))
+
+pub joined-end : {n : ℕ} {p q corner : List ℕ} {axis : ℕ} → Joined n p q corner axis → n ≤ axis → corner ≡ join p q
+joined-end {n} {p} {q} {corner} {axis} h l =
+    let last : axis ≡ length p = omega arith in
+    h .so-far ∙ ap (λ k. raised k p q) last ∙ raised-end p q (omega arith)
+
+-- Dominance: the axes left decide.
+pub record Passed (n : ℕ) (p c : List ℕ) (axis : ℕ) : Type 0 where
+  pub along : Along n p c axis
+  pub so-far : dominates p c ≡ dominates (drop axis p) (drop axis c)
+
+pub passed-none : (n : ℕ) (p c : List ℕ) → length p ≡ n → length c ≡ n → Passed n p c 0
+passed-none n p c e f = record { along = record { left = e; right = f; within = omega arith }; so-far = refl }
+
+passed-step : {n : ℕ} {p c : List ℕ} {axis : ℕ} → Passed n p c axis → axis < n → dominates p c ≡ both (leb (getD p axis 0) (getD c axis 0)) (dominates (drop (axis + 1) p) (drop (axis + 1) c))
+unfolding dominates
+passed-step {n} {p} {c} {axis} h l =
+    let m : axis < length p = omega arith in
+    let o : axis < length c = omega arith in
+    h .so-far ∙ rw (drop-cons p axis 0 m, drop-cons c axis 0 o, add-one axis)
+
+pub passed-more : {n : ℕ} {p c : List ℕ} {axis : ℕ} → Passed n p c axis → axis < n → getD p axis 0 ≤ getD c axis 0 → Passed n p c (axis + 1)
+unfolding both
+passed-more {n} {p} {c} {axis} h l e =
+    record {
+      along = along-more (h .along) l;
+      so-far = passed-step h l ∙ rw (le-leb (getD p axis 0) (getD c axis 0) e);
+    }
+
+pub passed-stop : {n : ℕ} {p c : List ℕ} {axis : ℕ} → Passed n p c axis → axis < n → getD c axis 0 < getD p axis 0 → false ≡ dominates p c
+unfolding both
+passed-stop {n} {p} {c} {axis} h l e =
+    sym (passed-step h l ∙ rw (lt-leb (getD p axis 0) (getD c axis 0) e))
+
+pub passed-end : {n : ℕ} {p c : List ℕ} {axis : ℕ} → Passed n p c axis → n ≤ axis → true ≡ dominates p c
+unfolding dominates
+passed-end {n} {p} {c} {axis} h l =
+    let last : axis ≡ length p = omega arith in
+    sym (h .so-far ∙ rw (last, drop-length p))
+
+-- The edge product: the product so far times the edge product on the axes left.
+pub record Multiplied (n : ℕ) (r p : List ℕ) (product axis : ℕ) : Type 0 where
+  pub along : Along n r p axis
+  pub so-far : product * edges (drop axis r) (drop axis p) ≡ edges r p
+  pub bound : product ≤ 1048576 ^ axis
+
+pub multiplied-none : (n : ℕ) (r p : List ℕ) → length r ≡ n → length p ≡ n → Multiplied n r p 1 0
+multiplied-none n r p e f =
+    record {
+      along = record { left = e; right = f; within = omega arith };
+      so-far = one-mul (edges r p);
+      bound = omega arith;
+    }
+
+pub multiplied-more : {n : ℕ} {r p : List ℕ} {product axis edge : ℕ} → Multiplied n r p product axis → axis < n → edge ≡ getD r axis 0 - getD p axis 0 → getD r axis 0 ≤ 1048576 → Multiplied n r p (product * edge) (axis + 1)
+unfolding edges
+multiplied-more {n} {r} {p} {product} {axis} {edge} h l e b =
+    let m : axis < length r = omega arith in
+    let o : axis < length p = omega arith in
+    let small : edge ≤ 1048576 = omega arith in
+    record {
+      along = along-more (h .along) l;
+      so-far =
+          rw (mul-assoc product edge (edges (drop (axis + 1) r) (drop (axis + 1) p)), e, add-one axis)
+          (rw (drop-cons r axis 0 m, drop-cons p axis 0 o) at (h .so-far));
+      bound = rw (add-one axis, pow-suc 1048576 axis) (mul-le-mul (h .bound) small);
+    }
+
+-- On three axes the product fits a word.
+pub multiplied-fits : {r p : List ℕ} {product axis edge : ℕ} → Multiplied 3 r p product axis → axis < 3 → edge ≡ getD r axis 0 - getD p axis 0 → getD r axis 0 ≤ 1048576 → product * edge < 2 ^ 64
+multiplied-fits {r} {p} {product} {axis} {edge} h l e b =
+    let small : edge ≤ 1048576 = omega arith in
+    let two : axis ≤ 2 = omega arith in
+    let base : 0 < 1048576 = omega arith in
+    let power : 1048576 ^ axis ≤ 1048576 ^ 2 = pow-le-pow-right base two in
+    let most : product * edge ≤ 1048576 ^ axis * 1048576 = mul-le-mul (h .bound) small in
+    omega arith
+
+pub multiplied-end : {n : ℕ} {r p : List ℕ} {product axis : ℕ} → Multiplied n r p product axis → n ≤ axis → product ≡ edges r p
+unfolding edges
+multiplied-end {n} {r} {p} {product} {axis} h l =
+    let last : axis ≡ length r = omega arith in
+    sym (mul-one product) ∙ (rw (last, drop-length r) at (h .so-far))

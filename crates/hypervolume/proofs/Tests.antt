@@ -1,0 +1,84 @@
+-- What a test of a cell comes to as a number, over plain variables: the pointwise half of every law of counts.
+use Prim.Native.Nat.{ℕ, zero, suc, _+_, _≤_, _<_, max}
+use mathlib.Core.Path.{_≡_, refl, sym, ap, _∙_}
+use mathlib.Core.Bool.{Bool, true, false}
+use mathlib.Core.Logic.{_⊎_, inl, inr, ⊎-elim}
+use native.Mathlib.Nat.{zero-add, add-zero, le-max-left, le-max-right, max-le}
+use native.Mathlib.Omega.{arith}
+use lib.Dec.{leb, eqb}
+use borrow.Author.Tests.{leb-true, leb-false, eqb-true, eqb-false, le-leb, lt-leb, eq-eqb, ne-eqb}
+use Rattle.hypervolume.specs.Cells.{both, holds}
+
+-- A comparison tells one of two things.
+pub data Compared (a b : ℕ) : Bool → Type 0 where
+  below : a ≤ b → Compared a b true
+  above : b < a → Compared a b false
+
+pub compared : (a b : ℕ) → Compared a b (leb a b)
+compared a b = go (leb a b) refl
+  where
+    go : (t : Bool) → leb a b ≡ t → Compared a b t
+    go true e = below (leb-true a b e)
+    go false e = above (leb-false a b e)
+
+-- An equality test tells one of two things.
+pub data Equated (a b : ℕ) : Bool → Type 0 where
+  same : a ≡ b → Equated a b true
+  differs : (a ≡ b → ⊥) → Equated a b false
+
+pub equated : (a b : ℕ) → Equated a b (eqb a b)
+equated a b = go (eqb a b) refl
+  where
+    go : (t : Bool) → eqb a b ≡ t → Equated a b t
+    go true e = same (eqb-true a b e)
+    go false e = differs (eqb-false a b e)
+
+pub holds-le-one : (t : Bool) → holds t ≤ 1
+unfolding holds
+holds-le-one true = omega arith
+holds-le-one false = omega arith
+
+-- a test that is implied by another counts at most as often
+pub both-le-left : (s t : Bool) → holds (both s t) ≤ holds s
+unfolding both holds
+both-le-left true true = omega arith
+both-le-left true false = omega arith
+both-le-left false t = omega arith
+
+pub both-le-right : (s t : Bool) → holds (both s t) ≤ holds t
+unfolding both holds
+both-le-right true t = omega arith
+both-le-right false true = omega arith
+both-le-right false false = omega arith
+
+pub both-comm : (s t : Bool) → both s t ≡ both t s
+unfolding both
+both-comm true true = refl
+both-comm true false = refl
+both-comm false true = refl
+both-comm false false = refl
+
+pub both-assoc : (s t u : Bool) → both (both s t) u ≡ both s (both t u)
+unfolding both
+both-assoc true t u = refl
+both-assoc false t u = refl
+
+pub both-true : (s t : Bool) → both s t ≡ true → (s ≡ true) × (t ≡ true)
+unfolding both
+both-true true t e = (refl, e)
+both-true false t e = (e, absurd (let z : _≡_ {A = ℕ} 0 1 = cc in omega arith))
+
+pub both-intro : (s t : Bool) → s ≡ true → t ≡ true → both s t ≡ true
+unfolding both
+both-intro s t p q = rw (p, q)
+
+-- Two bounds on a coordinate are a bound by the larger.
+pub leb-max : (x y i : ℕ) → leb (max x y) i ≡ both (leb x i) (leb y i)
+unfolding both
+leb-max x y i = go (leb x i) (leb y i) (compared x i) (compared y i)
+  where
+    go : (s t : Bool) → Compared x i s → Compared y i t → leb (max x y) i ≡ both s t
+    go true true (below p) (below q) = le-leb (max x y) i (max-le p q)
+    go true false (below p) (above q) = lt-leb (max x y) i (omega (arith, le-max-right x y))
+    go false true (above p) (below q) = lt-leb (max x y) i (omega (arith, le-max-left x y))
+    go false false (above p) (above q) = lt-leb (max x y) i (omega (arith, le-max-left x y))

@@ -1,0 +1,3 @@
+-- Laws of the archive's words: that reading undoes the layout, and what words that pass rows 1 to 3 are.
+pub mod Reading
+pub mod Passed

@@ -1,0 +1,331 @@
+-- What words that pass rows 1 to 3 are: the layout of a sound archive with the words behind it. And back: the
+-- layout of a sound archive passes, whatever lies behind it.
+use Prim.Native.Nat.{ℕ, zero, suc, _+_, _-_, _*_, _^_, _≤_, _<_}
+use mathlib.Core.Path.{_≡_, refl, sym, ap, _∙_, subst}
+use mathlib.Core.Bool.{Bool, true, false, not}
+use mathlib.Core.List.{List, [], _∷_, _++_, append-assoc}
+use native.Mathlib.Nat.{le-refl, le-trans, mul-le-mul}
+use native.Mathlib.Omega.{arith}
+use lib.Dec.{leb, ltb, eqb, lit≤}
+use lib.ListN.{length, getD, take, drop, replicate, length-append, length-take, length-drop, length-replicate, take-append-drop}
+use lib.Seq.{drop-at, take-at, drop-drop, take-add, length-take-le}
+use borrow.Author.Tests.{leb-true, ltb-false, eqb-true, le-leb, le-ltb, eq-eqb, not-false}
+use Rattle.hypervolume.specs.Cells.{both, box}
+use Rattle.hypervolume.proofs.Tests.{both-true, both-intro}
+use Rattle.words.specs.Archive.{Trial, Row, Shape, Archive, reference, trials}
+use Rattle.words.specs.Layout.{header, records, extent, layout, word, read-row, read-rows, read-shape, read, behind}
+use Rattle.words.specs.Format.{guard, within, shape-allowed, number-allowed, coordinates-allowed, header-allowed, row-allowed, rows-allowed, ordered, distinct, zeros, unused, records-allowed, archive-rows}
+use Rattle.words.proofs.Reading.{length-records, length-read-rows, read-rows-at, records-read, header-read, read-layout, length-layout}
+
+-- What a test of the table tells, as bounds, and back.
+
+pub within-bounds : (low high n : ℕ) → within low high n ≡ true → (low ≤ n) × (n ≤ high)
+unfolding within
+within-bounds low high n e =
+    let t = both-true (leb low n) (leb n high) e in
+    (leb-true low n (t .0), leb-true n high (t .1))
+
+pub bounds-within : (low high n : ℕ) → low ≤ n → n ≤ high → within low high n ≡ true
+unfolding within
+bounds-within low high n l h = both-intro (leb low n) (leb n high) (le-leb low n l) (le-leb n high h)
+
+pub record ShapeBounds (s : Shape) : Type 0 where
+  pub capacity-low : 1 ≤ s .capacity
+  pub capacity-high : s .capacity ≤ 512
+  pub rx-low : 1 ≤ s .rx
+  pub rx-high : s .rx ≤ 1048576
+  pub ry-low : 1 ≤ s .ry
+  pub ry-high : s .ry ≤ 1048576
+  pub rz-low : 1 ≤ s .rz
+  pub rz-high : s .rz ≤ 1048576
+
+pub shape-bounds : (s : Shape) → shape-allowed s ≡ true → ShapeBounds s
+unfolding shape-allowed
+shape-bounds s e =
+    let c = both-true _ _ e in
+    let x = both-true _ _ (c .1) in
+    let yz = both-true _ _ (x .1) in
+    let capacity = within-bounds 1 512 (s .capacity) (c .0) in
+    let rx = within-bounds 1 1048576 (s .rx) (x .0) in
+    let ry = within-bounds 1 1048576 (s .ry) (yz .0) in
+    let rz = within-bounds 1 1048576 (s .rz) (yz .1) in
+    record {
+      capacity-low = capacity .0;
+      capacity-high = capacity .1;
+      rx-low = rx .0;
+      rx-high = rx .1;
+      ry-low = ry .0;
+      ry-high = ry .1;
+      rz-low = rz .0;
+      rz-high = rz .1;
+    }
+
+pub bounds-shape : (s : Shape) → ShapeBounds s → shape-allowed s ≡ true
+unfolding shape-allowed
+bounds-shape s b =
+    both-intro _ _ (bounds-within 1 512 (s .capacity) (b .capacity-low) (b .capacity-high))
+    (both-intro _ _ (bounds-within 1 1048576 (s .rx) (b .rx-low) (b .rx-high))
+    (both-intro _ _ (bounds-within 1 1048576 (s .ry) (b .ry-low) (b .ry-high))
+    (bounds-within 1 1048576 (s .rz) (b .rz-low) (b .rz-high))))
+
+pub record RowBounds (s : Shape) (r : Row) : Type 0 where
+  pub number-low : 1 ≤ r .trial .number
+  pub number-high : r .trial .number ≤ 9999999
+  pub x-high : r .trial .x ≤ s .rx
+  pub y-high : r .trial .y ≤ s .ry
+  pub z-high : r .trial .z ≤ s .rz
+  pub kept-high : r .kept ≤ box (reference s)
+
+pub row-bounds : (s : Shape) (r : Row) → row-allowed s r ≡ true → RowBounds s r
+unfolding row-allowed number-allowed coordinates-allowed
+row-bounds s r e =
+    let n = both-true _ _ e in
+    let k = both-true _ _ (n .1) in
+    let x = both-true _ _ (k .0) in
+    let yz = both-true _ _ (x .1) in
+    let number = within-bounds 1 9999999 (r .trial .number) (n .0) in
+    record {
+      number-low = number .0;
+      number-high = number .1;
+      x-high = leb-true _ _ (x .0);
+      y-high = leb-true _ _ (yz .0);
+      z-high = leb-true _ _ (yz .1);
+      kept-high = leb-true _ _ (k .1);
+    }
+
+pub bounds-row : (s : Shape) (r : Row) → RowBounds s r → row-allowed s r ≡ true
+unfolding row-allowed number-allowed coordinates-allowed
+bounds-row s r b =
+    both-intro _ _ (bounds-within 1 9999999 (r .trial .number) (b .number-low) (b .number-high))
+    (both-intro _ _
+    (both-intro _ _ (le-leb _ _ (b .x-high)) (both-intro _ _ (le-leb _ _ (b .y-high)) (le-leb _ _ (b .z-high))))
+    (le-leb _ _ (b .kept-high)))
+
+-- Every row of rows that are allowed, by its place.
+pub rows-bounds : (s : Shape) (rows : List Row) → rows-allowed s rows ≡ true → (i : ℕ) (d : Row) → i < length rows → RowBounds s (getD rows i d)
+unfolding rows-allowed
+rows-bounds s [] e i d l = absurd (let no : ⊥ = omega arith in no)
+rows-bounds s (r ∷ rows) e zero d l = row-bounds s r (both-true _ _ e .0)
+rows-bounds s (r ∷ rows) e (suc i) d l = rows-bounds s rows (both-true _ _ e .1) i d (omega arith)
+
+pub bounds-rows : (s : Shape) (rows : List Row) (d : Row) → ((i : ℕ) → i < length rows → RowBounds s (getD rows i d)) → rows-allowed s rows ≡ true
+unfolding rows-allowed
+bounds-rows s [] d h = refl
+bounds-rows s (r ∷ rows) d h =
+    both-intro _ _ (bounds-row s r (h 0 (omega arith)))
+    (bounds-rows s rows d (λ i l. h (suc i) (omega arith)))
+
+pub zeros-replicate : (n : ℕ) → zeros (replicate n 0) ≡ true
+unfolding zeros both
+zeros-replicate zero = refl
+zeros-replicate (suc n) = zeros-replicate n
+
+pub replicate-zeros : (l : List ℕ) → zeros l ≡ true → l ≡ replicate (length l) 0
+unfolding zeros
+replicate-zeros [] e = refl
+replicate-zeros (n ∷ l) e =
+    let t = both-true _ _ e in
+    rw (eqb-true n 0 (t .0)) (ap (λ k. 0 ∷ k) (replicate-zeros l (t .1)))
+
+-- An archive that rows 2 and 3 let pass.
+pub record Sound (a : Archive) : Type 0 where
+  pub shaped : shape-allowed (a .shape) ≡ true
+  pub within-box : a .sum ≤ box (reference (a .shape))
+  pub held-within : length (a .rows) ≤ a .shape .capacity
+  pub rows-fit : rows-allowed (a .shape) (a .rows) ≡ true
+  pub in-order : ordered (trials (a .rows)) ≡ true
+  pub apart : distinct (trials (a .rows)) ≡ true
+
+-- What words are that pass rows 1 to 3. The bounds are said of the words, for code that reads them.
+pub record Passed (w : List ℕ) : Type 0 where
+  pub long : 8 + 5 * word w 1 ≤ length w
+  pub counted : word w 0 ≤ word w 1
+  pub bounds : ShapeBounds (read-shape w)
+  pub sound : Sound (read w)
+  pub laid : w ≡ layout (read w) ++ behind w
+
+guard-none : (t : Bool) (n rest : ℕ) → guard t (suc n) rest ≡ 0 → (t ≡ false) × (rest ≡ 0)
+unfolding guard
+guard-none true n rest e = absurd (let no : ⊥ = omega arith in no)
+guard-none false n rest e = (refl, e)
+
+-- Words in four parts.
+parts : (i j k : ℕ) (w : List ℕ) → w ≡ take i w ++ (take j (drop i w) ++ take k (drop (i + j) w)) ++ drop (i + j + k) w
+parts i j k w =
+    rw (
+      append-assoc (take i w) (take j (drop i w) ++ take k (drop (i + j) w)) (drop (i + j + k) w),
+      append-assoc (take j (drop i w)) (take k (drop (i + j) w)) (drop (i + j + k) w),
+      ← drop-drop k (i + j) w,
+      take-append-drop k (drop (i + j) w),
+      ← drop-drop j i w,
+      take-append-drop j (drop i w),
+      take-append-drop i w,
+    )
+
+-- The tests of rows 1 to 3, all passed.
+record Tests (w : List ℕ) : Type 0 where
+  long : 8 + 5 * word w 1 ≤ length w
+  shaped : shape-allowed (read-shape w) ≡ true
+  six : word w 6 ≡ 0
+  seven : word w 7 ≡ 0
+  counted : word w 0 ≤ word w 1
+  within-box : word w 5 ≤ box (reference (read-shape w))
+  rows-fit : rows-allowed (read-shape w) (read w .rows) ≡ true
+  in-order : ordered (trials (read w .rows)) ≡ true
+  apart : distinct (trials (read w .rows)) ≡ true
+  unused-zero : zeros (unused w) ≡ true
+
+tests : (w : List ℕ) → archive-rows w 0 ≡ 0 → Tests w
+unfolding archive-rows header-allowed records-allowed extent
+tests w e =
+    let first = guard-none _ _ _ e in
+    let second = guard-none _ _ _ (first .1) in
+    let third = guard-none _ _ _ (second .1) in
+    let fourth = guard-none _ _ _ (third .1) in
+    let shape = both-true _ _ (not-false _ (second .0)) in
+    let six = both-true _ _ (shape .1) in
+    let seven = both-true _ _ (six .1) in
+    let counted = both-true _ _ (seven .1) in
+    let rows = both-true _ _ (not-false _ (fourth .0)) in
+    let order = both-true _ _ (rows .1) in
+    let apart = both-true _ _ (order .1) in
+    record {
+      long = ltb-false (length w) (8 + 5 * word w 1) (third .0);
+      shaped = shape .0;
+      six = eqb-true _ _ (six .0);
+      seven = eqb-true _ _ (seven .0);
+      counted = leb-true _ _ (counted .0);
+      within-box = leb-true _ _ (counted .1);
+      rows-fit = rows .0;
+      in-order = order .0;
+      apart = apart .0;
+      unused-zero = apart .1;
+    }
+
+unused-words : (w : List ℕ) → Tests w → take (5 * (word w 1 - word w 0)) (drop (8 + 5 * word w 0) w) ≡ replicate (5 * (word w 1 - word w 0)) 0
+unfolding unused
+unused-words w t =
+    let enough : 5 * (word w 1 - word w 0) ≤ length (drop (8 + 5 * word w 0) w) =
+    omega (arith, length-drop (8 + 5 * word w 0) w, t .long, t .counted) in
+    replicate-zeros _ (t .unused-zero) ∙ ap (λ n. replicate n 0) (length-take-le _ _ enough)
+
+laid-out : (w : List ℕ) → Tests w → w ≡ layout (read w) ++ behind w
+unfolding layout behind extent read read-shape
+laid-out w t =
+    let long : 8 + 5 * word w 1 ≤ length w = t .long in
+    let counted : word w 0 ≤ word w 1 = t .counted in
+    let last : 8 + 5 * word w 0 + 5 * (word w 1 - word w 0) ≡ 8 + 5 * word w 1 = omega arith in
+    let rows : 5 * word w 0 ≤ length (drop 8 w) = omega (arith, length-drop 8 w) in
+    rw (
+      length-read-rows (word w 0) (drop 8 w),
+      header-read w (omega arith) (t .six) (t .seven),
+      records-read (word w 0) (drop 8 w) rows,
+      ← unused-words w t,
+      ← last,
+    )
+    (parts 8 (5 * word w 0) (5 * (word w 1 - word w 0)) w)
+
+-- What passes rows 1 to 3 is the layout of a sound archive, with the words behind.
+pub passed : (w : List ℕ) → archive-rows w 0 ≡ 0 → Passed w
+unfolding read read-shape
+passed w e =
+    let t : Tests w = tests w e in
+    record {
+      long = t .long;
+      counted = t .counted;
+      bounds = shape-bounds (read-shape w) (t .shaped);
+      sound =
+          record {
+            shaped = t .shaped;
+            within-box = t .within-box;
+            held-within = subst (λ n. n ≤ word w 1) (sym (length-read-rows (word w 0) (drop 8 w))) (t .counted);
+            rows-fit = t .rows-fit;
+            in-order = t .in-order;
+            apart = t .apart;
+          };
+      laid = laid-out w t;
+    }
+
+tests-pass : (w : List ℕ) (rest : ℕ) → Tests w → archive-rows w rest ≡ rest
+unfolding archive-rows guard header-allowed records-allowed extent
+tests-pass w rest t =
+    let long : 8 + 5 * word w 1 ≤ length w = t .long in
+    let header : header-allowed w ≡ true =
+    both-intro _ _ (t .shaped)
+    (both-intro _ _ (eq-eqb _ _ (t .six))
+    (both-intro _ _ (eq-eqb _ _ (t .seven))
+    (both-intro _ _ (le-leb _ _ (t .counted)) (le-leb _ _ (t .within-box))))) in
+    let rows : records-allowed w ≡ true =
+    both-intro _ _ (t .rows-fit)
+    (both-intro _ _ (t .in-order) (both-intro _ _ (t .apart) (t .unused-zero))) in
+    rw (le-ltb (length w) 8 (omega arith), header, le-ltb (length w) (8 + 5 * word w 1) long, rows)
+
+middle : (p q r : List ℕ) (i n : ℕ) → length p ≡ i → length q ≡ n → take n (drop i (p ++ (q ++ r))) ≡ q
+middle p q r i n l m = rw (drop-at p (q ++ r) i l) (take-at q r n m)
+
+-- The unused words of a layout.
+unused-layout : (a : Archive) (b : List ℕ) → unused (layout a ++ b) ≡ replicate (5 * (a .shape .capacity - length (a .rows))) 0
+unfolding unused layout header
+unused-layout a b =
+    let n : ℕ = 5 * (a .shape .capacity - length (a .rows)) in
+    let before : length (header a ++ records (a .rows)) ≡ 8 + 5 * length (a .rows) =
+    omega (arith, length-records (a .rows)) in
+    rw (append-assoc (records (a .rows)) (replicate n 0) b)
+    (middle (header a ++ records (a .rows)) (replicate n 0) b _ n before (length-replicate n 0))
+
+-- The layout of a sound archive passes rows 1 to 3, whatever lies behind it.
+pub sound-passes : (a : Archive) (b : List ℕ) (rest : ℕ) → Sound a → archive-rows (layout a ++ b) rest ≡ rest
+unfolding layout header read-shape extent
+sound-passes a b rest s =
+    let rows : read (layout a ++ b) .rows ≡ a .rows = ap (λ r. r .rows) (read-layout a b) in
+    let whole : length (layout a ++ b) ≡ 8 + 5 * a .shape .capacity + length b =
+    length-append (layout a) b ∙ ap (λ n. n + length b) (length-layout a (s .held-within)) in
+    tests-pass (layout a ++ b) rest
+    (record {
+      long = omega arith;
+      shaped = s .shaped;
+      six = refl;
+      seven = refl;
+      counted = s .held-within;
+      within-box = s .within-box;
+      rows-fit = rw rows (s .rows-fit);
+      in-order = rw rows (s .in-order);
+      apart = rw rows (s .apart);
+      unused-zero = rw (unused-layout a b) (zeros-replicate (5 * (a .shape .capacity - length (a .rows))));
+    })
+
+-- Words that have passed pass whatever rows a call adds.
+pub passes-again : (w : List ℕ) (rest : ℕ) → Passed w → archive-rows w rest ≡ rest
+passes-again w rest p =
+    ap (λ l. archive-rows l rest) (p .laid) ∙ sound-passes (read w) (behind w) rest (p .sound)
+
+-- Words that rows 1 to 3 turn down are turned down by the same row, whatever rows a call adds.
+pub still-refused : (w : List ℕ) (rest : ℕ) → (archive-rows w 0 ≡ 0 → ⊥) → archive-rows w rest ≡ archive-rows w 0
+unfolding archive-rows guard
+still-refused w rest r =
+    go (ltb (length w) 8) (not (header-allowed w)) (ltb (length w) (extent (word w 1))) (not (records-allowed w)) r
+  where
+    go : (s t u v : Bool) → (guard s 1 (guard t 2 (guard u 1 (guard v 3 0))) ≡ 0 → ⊥)
+        → guard s 1 (guard t 2 (guard u 1 (guard v 3 rest))) ≡ guard s 1 (guard t 2 (guard u 1 (guard v 3 0)))
+    go true t u v r = refl
+    go false true u v r = refl
+    go false false true v r = refl
+    go false false false true r = refl
+    go false false false false r = absurd (r refl)
+
+-- Every record of words that have passed, at its place in the words.
+pub passed-row : (w : List ℕ) → Passed w → (i : ℕ) → i < word w 0 → RowBounds (read-shape w) (read-row (drop (8 + 5 * i) w))
+unfolding read
+passed-row w p i l =
+    let none : Row = read-row w in
+    let rows : List Row = read-rows (word w 0) (drop 8 w) in
+    let inside : i < length rows = omega (arith, length-read-rows (word w 0) (drop 8 w)) in
+    let place : getD rows i none ≡ read-row (drop (8 + 5 * i) w) =
+    read-rows-at (word w 0) i (drop 8 w) none l ∙ ap read-row (drop-drop (5 * i) 8 w) in
+    subst (RowBounds (read-shape w)) place (rows-bounds (read-shape w) rows (p .sound .rows-fit) i none inside)
+
+-- "The box is rx × ry × rz, at most 2^60."
+pub box-bound : (s : Shape) → ShapeBounds s → box (reference s) ≤ 2 ^ 60
+unfolding box
+box-bound s b =
+    le-trans (mul-le-mul (b .rx-high) (mul-le-mul (b .ry-high) (mul-le-mul (b .rz-high) (le-refl 1)))) (lit≤ tt)
