@@ -62,14 +62,16 @@ falls-below a t (r ∷ rows) = either (ltb (r .kept) (joint-with a t r)) (falls-
 unfoldable pub insert-overruns : Archive → Trial → Bool
 insert-overruns a t = either (ltb (box-of a) (a .sum + insert-gain a t)) (falls-below a t (a .rows))
 
--- The rows of insert, in the table's order.
-unfoldable pub insert-rows : Archive → Trial → ℕ
-insert-rows a t =
+-- Rows 5 to 8, which judge a new trial, then the rows after them.
+unfoldable pub admission-rows : Archive → Trial → ℕ → ℕ
+admission-rows a t rest =
     guard (not (number-allowed (t .number))) 5
     (guard (not (coordinates-allowed (a .shape) t)) 6
-    (guard (held (t .number) (held-trials a)) 7
-    (guard (eqb (length (a .rows)) (a .shape .capacity)) 8
-    (guard (insert-overruns a t) 13 0))))
+    (guard (held (t .number) (held-trials a)) 7 (guard (eqb (length (a .rows)) (a .shape .capacity)) 8 rest)))
+
+-- The rows of insert, in the table's order.
+unfoldable pub insert-rows : Archive → Trial → ℕ
+insert-rows a t = admission-rows a t (guard (insert-overruns a t) 13 0)
 
 -- The record of a number, and the records of the others.
 unfoldable pub row-of : ℕ → List Row → Row

@@ -14,3 +14,9 @@ pub struct Least {
     pub number: u64,
     pub contribution: u64,
 }
+
+mod amounts;
+mod records;
+mod share;
+mod shifts;
+mod strides;

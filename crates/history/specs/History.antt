@@ -2,15 +2,15 @@
 -- the definitions that the contracts of the calls cite (Rattle.archive.specs.Lent), so the claim speaks of the code.
 use Prim.Native.Nat.{ℕ, min}
 use mathlib.Core.Path.{_≡_}
-use mathlib.Core.List.{List, [], _∷_, _++_, map}
+use mathlib.Core.List.{List, [], _∷_, _++_}
 use lib.ListN.{length, take, drop}
-use Rattle.words.specs.Archive.{Trial, Row, Shape, Archive, point, reference, points}
+use Rattle.words.specs.Archive.{Trial, Shape, Archive}
 use Rattle.words.specs.Layout.{layout, extent}
-use Rattle.hypervolume.specs.Counts.{total, contribution}
 use Rattle.archive.specs.Calls.{place}
+use Rattle.archive.specs.Counted.{counted}
 use Rattle.archive.specs.Lent
 use Rattle.archive.specs.Lent.{Outcome, start}
-use Rattle.history.specs.Book.{Book, Request, Reply, Turn, book-turn, opened}
+use Rattle.history.specs.Book.{Book, Request, Reply, book-turn, opened}
 
 -- A call of the list: "each call is lent the words that the last one left, or only a first part of them" (lent, how
 -- many), with any arguments, and for a reduce any log words.
@@ -79,15 +79,6 @@ book-answers size [] b = []
 book-answers size (c ∷ calls) b =
     expected c (book-turn (request size c) b .reply) ∷ book-answers size calls (book-turn (request size c) b .book)
 
--- The archive that holds exactly these trials, with total and contributions counted on them alone.
-unfoldable pub counted : Shape → List Trial → Archive
-counted s ts =
-    record {
-      shape = s;
-      sum = total (reference s) (points ts);
-      rows = map (λ t. record { trial = t; kept = contribution (reference s) (points ts) (point t) }) ts;
-    }
-
 -- The trials in the archive's order.
 unfoldable pub sorted : List Trial → List Trial
 sorted [] = []
@@ -98,8 +89,11 @@ shape-of-book b = record { capacity = b .capacity; rx = b .rx; ry = b .ry; rz = 
 
 -- "A fresh archive holding the surviving trials has the words set out above, with the book's reference, capacity
 -- and trials, and with total and contributions counted on those trials alone."
+unfoldable pub fresh-archive : Book → Archive
+fresh-archive b = counted (shape-of-book b) (sorted (b .trials))
+
 unfoldable pub fresh : Book → List ℕ
-fresh b = layout (counted (shape-of-book b) (sorted (b .trials)))
+fresh b = layout (fresh-archive b)
 
 -- Term 3's claim about a whole list of calls, after a start with these arguments on these words: the words before
 -- 8 + 5 × capacity are those of a fresh archive of the book's survivors, the words behind are untouched, and every

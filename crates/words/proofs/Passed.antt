@@ -144,7 +144,7 @@ pub record Passed (w : List ℕ) : Type 0 where
   pub sound : Sound (read w)
   pub laid : w ≡ layout (read w) ++ behind w
 
-guard-none : (t : Bool) (n rest : ℕ) → guard t (suc n) rest ≡ 0 → (t ≡ false) × (rest ≡ 0)
+pub guard-none : (t : Bool) (n rest : ℕ) → guard t (suc n) rest ≡ 0 → (t ≡ false) × (rest ≡ 0)
 unfolding guard
 guard-none true n rest e = absurd (let no : ⊥ = omega arith in no)
 guard-none false n rest e = (refl, e)

@@ -3,7 +3,7 @@
 use Prim.Native.Nat.{ℕ, zero, suc, _+_, _-_, _*_, _≤_, _<_}
 use mathlib.Core.Path.{_≡_, refl, sym, ap, _∙_}
 use mathlib.Core.List.{List, [], _∷_, _++_, append-assoc}
-use native.Mathlib.Nat.{mul-zero, mul-suc}
+use native.Mathlib.Nat.{suc-add, zero-add}
 use native.Mathlib.Omega.{arith}
 use lib.ListN.{length, getD, take, drop, replicate, length-append, length-drop, length-replicate}
 use lib.Seq.{drop-at, drop-cons, drop-drop, take-add}
@@ -30,6 +30,14 @@ pub length-read-rows : (n : ℕ) (w : List ℕ) → length (read-rows n w) ≡ n
 unfolding read-rows
 length-read-rows zero w = refl
 length-read-rows (suc n) w = ap suc (length-read-rows n (drop 5 w))
+
+-- Records read one stretch after the other.
+pub read-rows-append : (m n : ℕ) (w : List ℕ) → read-rows (m + n) w ≡ read-rows m w ++ read-rows n (drop (5 * m) w)
+unfolding read-rows
+read-rows-append zero n w = rw zero-add
+read-rows-append (suc m) n w =
+    let more : 5 * suc m ≡ 5 + 5 * m = omega arith in
+    rw (suc-add m n, more, ← drop-drop (5 * m) 5 w, read-rows-append m n (drop 5 w))
 
 -- The record at a place.
 pub read-rows-at : (n i : ℕ) (w : List ℕ) (d : Row) → i < n → getD (read-rows n w) i d ≡ read-row (drop (5 * i) w)

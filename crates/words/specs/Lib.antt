@@ -3,3 +3,5 @@
 pub mod Archive
 pub mod Layout
 pub mod Format
+pub mod Places
+pub mod Table

@@ -1,0 +1,36 @@
+-- The loop that looks for the least contributor: of the records passed, the one at place b goes first.
+use Prim.Native.Nat.{ℕ, zero, suc, _+_, _≤_, _<_}
+use mathlib.Core.Path.{_≡_, refl, sym, ap, _∙_}
+use mathlib.Core.Bool.{Bool, true, false}
+use mathlib.Core.List.{List, [], _∷_}
+use native.Mathlib.Numerals.{add-one}
+use native.Mathlib.Omega.{arith}
+use lib.ListN.{length, getD, drop, drop-of-length-le}
+use lib.Seq.{drop-cons}
+use Rattle.words.specs.Archive.{Row, pick}
+use Rattle.archive.specs.Calls.{goes-first, least-from, least-row}
+
+pub record Leading (rows : List Row) (d : Row) (b i : ℕ) : Type 0 where
+  pub part : i ≤ length rows
+  pub best : b < i
+  pub left : least-row rows ≡ least-from (getD rows b d) (drop i rows)
+
+pub leading-none : (rows : List Row) (d : Row) → 0 < length rows → Leading rows d 0 1
+unfolding least-row
+leading-none [] d l = absurd (let no′ : ⊥ = omega arith in no′)
+leading-none (r ∷ rows) d l = record { part = omega arith; best = omega arith; left = refl }
+
+pub leading-more : {rows : List Row} {d : Row} {b i : ℕ} → Leading rows d b i → i < length rows → Leading rows d (pick (goes-first (getD rows i d) (getD rows b d)) i b) (i + 1)
+unfolding least-from pick
+leading-more {rows} {d} {b} {i} h l = go (goes-first (getD rows i d) (getD rows b d)) opened-up
+  where
+    opened-up : least-row rows ≡ least-from (pick (goes-first (getD rows i d) (getD rows b d)) (getD rows i d) (getD rows b d)) (drop (i + 1) rows)
+    opened-up = h .left ∙ ap (least-from (getD rows b d)) (drop-cons rows i d l ∙ ap (λ k. getD rows i d ∷ drop k rows) (sym (add-one i)))
+
+    go : (t : Bool) → least-row rows ≡ least-from (pick t (getD rows i d) (getD rows b d)) (drop (i + 1) rows) → Leading rows d (pick t i b) (i + 1)
+    go true e = record { part = omega arith; best = omega arith; left = e }
+    go false e = record { part = omega arith; best = let best : b < i = h .best in omega arith; left = e }
+
+pub leading-end : {rows : List Row} {d : Row} {b i : ℕ} → Leading rows d b i → length rows ≤ i → getD rows b d ≡ least-row rows
+unfolding least-from
+leading-end {rows} {d} {b} {i} h l = sym (h .left ∙ ap (least-from (getD rows b d)) (drop-of-length-le rows l))

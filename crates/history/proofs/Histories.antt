@@ -1,0 +1,104 @@
+-- Term 3 of document 00, its claim about whole lists of calls: by induction on the list, through one invariant (Steps:
+-- the words hold the fresh archive of the book, and behind it what lay there at the start).
+use Prim.Native.Nat.{ℕ, _+_, _≤_, zero-le}
+use mathlib.Core.Path.{_≡_, refl, sym, ap, _∙_}
+use mathlib.Core.Bool.{true}
+use mathlib.Core.List.{List, [], _∷_}
+use native.Mathlib.Omega.{arith}
+use lib.ListN.{length, take, drop, length-drop}
+use lib.Seq.{take-at, drop-at}
+use borrow.Author.Tests.{ltb-false, not-false}
+use Rattle.words.specs.Archive.{Shape, trials}
+use Rattle.words.specs.Layout.{extent}
+use Rattle.words.specs.Format.{shape-allowed, rows-allowed, ordered, distinct}
+use Rattle.words.proofs.Passed.{guard-none, Sound}
+use Rattle.archive.specs.Calls.{empty}
+use Rattle.archive.specs.Lent.{leaves, start-rows, start}
+use Rattle.archive.proofs.Counted.{empty-counted}
+use Rattle.archive.proofs.Lent.{leaves-refusal, leaves-done}
+use Rattle.history.specs.Book.{Book, book-turn, opened}
+use Rattle.history.specs.History.{Call, on-words, words-after, run-words, run-answers, request, run-book, book-answers, sorted, shape-of-book, fresh-archive, fresh, Agrees}
+use Rattle.history.proofs.Steps.{Holds, Agree, fresh-length, holds-length, step}
+
+-- The length of the words does not change.
+fresh-size : (s : Shape) (rest w : List ℕ) (b : Book) → Holds s rest b w → length (fresh b) ≡ extent (s .capacity)
+unfolding shape-of-book
+fresh-size s rest w b h = fresh-length s rest w b h ∙ ap (λ t. extent (t .capacity)) (h .shape)
+
+holds-size : (s : Shape) (rest w : List ℕ) (b : Book) → Holds s rest b w → length w ≡ extent (s .capacity) + length rest
+unfolding shape-of-book
+holds-size s rest w b h =
+    holds-length s rest w b h ∙ ap (λ t. extent (t .capacity) + length rest) (h .shape)
+
+-- A list of calls, from words that hold a book's fresh archive.
+pub record RunsAlike (s : Shape) (rest w : List ℕ) (b : Book) (size : ℕ) (calls : List Call) : Type 0 where
+  pub holds : Holds s rest (run-book size calls b) (run-words calls w)
+  pub answers : run-answers calls w ≡ book-answers size calls b
+
+pub runs-alike : (calls : List Call) (s : Shape) (rest w : List ℕ) (b : Book) → Holds s rest b w
+    → RunsAlike s rest w b (extent (s .capacity) + length rest) calls
+unfolding run-words run-answers run-book book-answers words-after
+runs-alike [] s rest w b h = record { holds = h; answers = refl }
+runs-alike (c ∷ calls) s rest w b h =
+    let size : length w ≡ extent (s .capacity) + length rest = holds-size s rest w b h in
+    let now : Agree s rest w c (on-words c w) (book-turn (request (extent (s .capacity) + length rest) c) b) =
+    rw (← size) (step s rest w b h c) in
+    let later = runs-alike calls s rest _ _ (now .holds) in
+    record { holds = later .holds; answers = rw (now .answer, later .answers) }
+
+-- A start that is done.
+fresh-start : (s : Shape) → fresh-archive (opened (s .capacity) (s .rx) (s .ry) (s .rz)) ≡ empty s
+unfolding fresh-archive shape-of-book opened sorted
+fresh-start s = sym (empty-counted s)
+
+empty-sound : (s : Shape) → shape-allowed s ≡ true → Sound (empty s)
+unfolding empty rows-allowed ordered distinct trials
+empty-sound s h =
+    record { shaped = h; within-box = zero-le; held-within = zero-le; rows-fit = refl; in-order = refl; apart = refl }
+
+-- What a start that is done leaves.
+pub record Started (before : List ℕ) (s : Shape) : Type 0 where
+  pub size : length before ≡ extent (s .capacity) + length (drop (extent (s .capacity)) before)
+  pub holds : Holds s (drop (extent (s .capacity)) before) (opened (s .capacity) (s .rx) (s .ry) (s .rz)) (start before s .words)
+
+pub started : (before : List ℕ) (s : Shape) → start before s .refusal ≡ 0 → Started before s
+unfolding start start-rows
+started before s e =
+    let passed : start-rows before s ≡ 0 = sym (leaves-refusal before [] (start-rows before s) 0 _ []) ∙ e in
+    let shaped = guard-none _ _ _ passed in
+    let long = guard-none _ _ _ (shaped .1) in
+    let enough : extent (s .capacity) ≤ length before = ltb-false _ _ (long .0) in
+    record {
+      size = omega (arith, length-drop (extent (s .capacity)) before);
+      holds =
+          record {
+            shape = unfold shape-of-book opened in refl;
+            sound = rw (fresh-start s) (empty-sound s (not-false _ (shaped .0)));
+            words = ap (λ o. o .words) (leaves-done before [] (start-rows before s) 0 _ [] e) ∙ unfold leaves fresh in rw (fresh-start s);
+          };
+    }
+
+-- The words before the extent and behind it.
+holds-front : (s : Shape) (rest w : List ℕ) (b : Book) → Holds s rest b w → take (extent (s .capacity)) w ≡ fresh b
+holds-front s rest w b h = rw (h .words) (take-at (fresh b) rest (extent (s .capacity)) (fresh-size s rest w b h))
+
+holds-behind : (s : Shape) (rest w : List ℕ) (b : Book) → Holds s rest b w → drop (extent (s .capacity)) w ≡ rest
+holds-behind s rest w b h = rw (h .words) (drop-at (fresh b) rest (extent (s .capacity)) (fresh-size s rest w b h))
+
+-- A whole history: what holds after it, with the book's answers.
+pub whole-history : (before : List ℕ) (s : Shape) (calls : List Call) → start before s .refusal ≡ 0
+    → RunsAlike s (drop (extent (s .capacity)) before) (start before s .words) (opened (s .capacity) (s .rx) (s .ry) (s .rz)) (length before) calls
+whole-history before s calls e =
+    let begun = started before s e in
+    rw (begun .size) (runs-alike calls s _ (start before s .words) _ (begun .holds))
+
+-- Term 3: "for every such list, the archive's words after it are those of a fresh archive .. and every call has
+-- answered as the trial book of document 01 does".
+pub history : (before : List ℕ) (s : Shape) (calls : List Call) → start before s .refusal ≡ 0 → Agrees before s calls
+history before s calls e =
+    let run = whole-history before s calls e in
+    record {
+      words = holds-front s _ _ _ (run .holds);
+      words-behind = holds-behind s _ _ _ (run .holds);
+      answers = run .answers;
+    }

@@ -1,0 +1,9 @@
+-- The proofs of terms 2 and 3 (Terms has both) and of the counts to meet (Stars).
+pub mod Sorting
+pub mod Thinning
+pub mod Steps
+pub mod Histories
+pub mod Moves
+pub mod Kept
+pub mod Terms
+pub mod Stars

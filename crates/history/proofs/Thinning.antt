@@ -1,0 +1,147 @@
+-- A reduction of a counted archive strikes out what the book strikes out, and notes what the book notes.
+use Prim.Native.Nat.{ℕ, zero, suc, _≤_, _<_}
+use mathlib.Core.Path.{_≡_, refl, sym, ap, _∙_}
+use mathlib.Core.Bool.{Bool, true, false}
+use mathlib.Core.Logic.{inl, inr}
+use mathlib.Core.List.{List, [], _∷_, map}
+use native.Mathlib.Omega.{arith}
+use lib.Dec.{ltb}
+use lib.ListN.{length, length-map}
+use Rattle.hypervolume.proofs.Tests.{Compared, below, above, compared}
+use Rattle.hypervolume.proofs.Counting.{contribution-same}
+use Rattle.words.specs.Archive.{Trial, Row, point, points, pick}
+use Rattle.words.specs.Format.{held, distinct}
+use Rattle.words.proofs.Passed.{Sound}
+use Rattle.archive.specs.Calls.{held-trials, without, removed, least-row, dropped, note, after-drops, notes}
+use Rattle.archive.specs.Counted.{IsCounted, counted-row, counted}
+use Rattle.archive.proofs.Members.{map-on, map-members}
+use Rattle.archive.proofs.Counted.{counted-trials, counted-is-counted, counted-remove}
+use Rattle.archive.proofs.Ranking.{less, ties, leads-self, Leader, LeastOf, least-alone, least-settled, least-row-is, least-one}
+use Rattle.archive.proofs.Drops.{leaving, drop-keeps}
+use Rattle.history.specs.Book.{Book, counted-contribution, rather, least-of, least-trial, struck, struck-out, book-note, thinned, book-notes}
+use Rattle.history.specs.History.{sorted, shape-of-book, fresh-archive}
+use Rattle.history.proofs.Sorting.{sorted-length, sorted-distinct, sorted-cover, sorted-member, member-sorted, struck-trials, sorted-struck}
+
+-- A trial of the book as a record, with its contribution as the book counts it.
+unfoldable pub book-row : Book → Trial → Row
+book-row b t = record { trial = t; kept = counted-contribution b t }
+
+book-leader : (b : Book) (t u : Trial) → Leader (book-row b (rather b t u)) (book-row b t) (book-row b u)
+unfolding rather pick book-row
+book-leader b t u =
+    go (ltb k l) (ltb l k) (ltb (u .number) (t .number)) (compared (suc k) l) (compared (suc l) k) (compared (suc (u .number)) (t .number))
+  where
+    k : ℕ
+    k = counted-contribution b t
+
+    l : ℕ
+    l = counted-contribution b u
+
+    go : (x y z : Bool) → Compared (suc k) l x → Compared (suc l) k y → Compared (suc (u .number)) (t .number) z
+        → Leader (book-row b (pick x t (pick y u (pick z t u)))) (book-row b t) (book-row b u)
+    go true y z (below p) q r = record { one = inl refl; first = leads-self (book-row b t); second = less p }
+    go false true z (above p) (below q) r = record { one = inr refl; first = less q; second = leads-self (book-row b u) }
+    go false false true (above p) (above q) (below r) =
+        record { one = inl refl; first = leads-self (book-row b t); second = ties (omega arith) (omega arith) }
+    go false false false (above p) (above q) (above r) =
+        record { one = inr refl; first = ties (omega arith) (omega arith); second = leads-self (book-row b u) }
+
+book-least-of : (b : Book) (t : Trial) (ts : List Trial) → LeastOf (book-row b (least-of b t ts)) (map (book-row b) (t ∷ ts))
+unfolding least-of
+book-least-of b t [] = least-alone (book-row b t)
+book-least-of b t (u ∷ ts) =
+    least-settled _ (book-row b (rather b t u)) (book-row b t) (book-row b u) (map (book-row b) ts)
+    (book-leader b t u) (book-least-of b (rather b t u) ts)
+
+pub book-least : (b : Book) (ts : List Trial) → 0 < length ts → LeastOf (book-row b (least-trial b ts)) (map (book-row b) ts)
+unfolding least-trial
+book-least b [] l = absurd (let no′ : ⊥ = omega arith in no′)
+book-least b (t ∷ ts) l = book-least-of b t ts
+
+-- The records of the fresh archive are the book's, in order.
+pub fresh-rows : (b : Book) → fresh-archive b .rows ≡ map (book-row b) (sorted (b .trials))
+unfolding fresh-archive counted counted-row book-row counted-contribution shape-of-book points
+fresh-rows b =
+    map-on _ (book-row b) (sorted (b .trials))
+    (λ t m. ap (λ k. record { trial = t; kept = k }) (contribution-same _ _ _ (point t) (sorted-cover (b .trials))))
+
+pub fresh-counted : (b : Book) → IsCounted (fresh-archive b)
+unfolding fresh-archive
+fresh-counted b = counted-is-counted (shape-of-book b) (sorted (b .trials))
+
+pub fresh-count : (b : Book) → length (fresh-archive b .rows) ≡ length (b .trials)
+fresh-count b = rw (fresh-rows b, length-map (sorted (b .trials)) (book-row b)) (sorted-length (b .trials))
+
+fresh-least : (b : Book) → 0 < length (b .trials)
+    → (least-row (fresh-archive b .rows) .kept ≡ counted-contribution b (least-trial b (b .trials))) × (leaving (fresh-archive b) ≡ least-trial b (b .trials) .number)
+unfolding book-row
+fresh-least b l =
+    rw (fresh-rows b)
+    (least-one _ (book-row b (least-trial b (b .trials)))
+    (map (book-row b) (sorted (b .trials))) (map (book-row b) (b .trials))
+    (map-members (book-row b) _ _ (λ t. sorted-member t (b .trials)))
+    (map-members (book-row b) _ _ (λ t. member-sorted t (b .trials)))
+    (least-row-is (map (book-row b) (sorted (b .trials))) (omega (arith, length-map (sorted (b .trials)) (book-row b), sorted-length (b .trials))))
+    (book-least b (b .trials) l))
+
+pub fresh-trials : (b : Book) → held-trials (fresh-archive b) ≡ sorted (b .trials)
+unfolding fresh-archive
+fresh-trials b = counted-trials (shape-of-book b) (sorted (b .trials))
+
+-- Striking a held trial out of the book is removing it from the fresh archive.
+pub fresh-remove : (b : Book) (n : ℕ) → Sound (fresh-archive b) → held n (held-trials (fresh-archive b)) ≡ true
+    → removed (fresh-archive b) n ≡ fresh-archive (struck n b)
+unfolding fresh-archive without shape-of-book struck
+fresh-remove b n s h =
+    let apart : distinct (sorted (b .trials)) ≡ true = rw (← fresh-trials b) (s .apart) in
+    let left : held-trials (without (fresh-archive b) n) ≡ sorted (struck-out n (b .trials)) =
+    struck-trials n (fresh-archive b .rows) ∙ ap (struck-out n) (fresh-trials b)
+    ∙ sym (sorted-struck n (b .trials) (sym (sorted-distinct (b .trials)) ∙ apart)) in
+    counted-remove (shape-of-book b) (sorted (b .trials)) n (rw (← fresh-trials b) h) apart
+    ∙ ap (counted (shape-of-book b)) left
+
+-- One drop, on the archive and in the book.
+pub record DropsAlike (b : Book) : Type 0 where
+  pub noted : note (fresh-archive b) ≡ book-note b
+  pub left : dropped (fresh-archive b) ≡ fresh-archive (struck (least-trial b (b .trials) .number) b)
+  pub sound : Sound (fresh-archive (struck (least-trial b (b .trials) .number) b))
+  pub count : length (b .trials) ≡ suc (length (struck (least-trial b (b .trials) .number) b .trials))
+
+pub drops-alike : (b : Book) → Sound (fresh-archive b) → 0 < length (b .trials) → DropsAlike b
+unfolding note book-note
+drops-alike b s l =
+    let least = fresh-least b l in
+    let kept = drop-keeps (fresh-archive b) s (fresh-counted b) (rw (fresh-count b) l) in
+    let left : dropped (fresh-archive b) ≡ fresh-archive (struck (least-trial b (b .trials) .number) b) =
+    rw (← least .1) (unfold dropped in fresh-remove b (leaving (fresh-archive b)) s (kept .known)) in
+    record {
+      noted = rw (least .0, least .1);
+      left = left;
+      sound = rw (← left) (kept .sound);
+      count = sym (fresh-count b) ∙ kept .count ∙ ap suc (ap (λ a. length (a .rows)) left ∙ fresh-count _);
+    }
+
+pub struck-shape : (n : ℕ) (b : Book) → shape-of-book (struck n b) ≡ shape-of-book b
+unfolding struck shape-of-book
+struck-shape n b = refl
+
+-- A whole reduction: n drops.
+pub record Thins (n : ℕ) (b : Book) : Type 0 where
+  pub left : after-drops n (fresh-archive b) ≡ fresh-archive (thinned n b)
+  pub noted : notes n (fresh-archive b) ≡ book-notes n b
+  pub sound : Sound (fresh-archive (thinned n b))
+  pub shape : shape-of-book (thinned n b) ≡ shape-of-book b
+
+pub thins : (n : ℕ) (b : Book) → Sound (fresh-archive b) → n ≤ length (b .trials) → Thins n b
+unfolding after-drops notes thinned book-notes
+thins zero b s l = record { left = refl; noted = refl; sound = s; shape = refl }
+thins (suc n) b s l =
+    let drop = drops-alike b s (omega arith) in
+    let one = drop .count in
+    let later = thins n (struck (least-trial b (b .trials) .number) b) (drop .sound) (omega arith) in
+    record {
+      left = rw (drop .left) (later .left);
+      noted = rw (drop .noted, drop .left, later .noted);
+      sound = later .sound;
+      shape = later .shape ∙ struck-shape _ b;
+    }

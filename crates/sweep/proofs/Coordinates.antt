@@ -1,0 +1,47 @@
+-- The points that three lists of coordinates hold, and the same points with the axes in the order z, x, y.
+use Prim.Native.Nat.{ℕ, zero, suc, _+_, _≤_, _<_}
+use mathlib.Core.Path.{_≡_, refl, sym, ap, _∙_}
+use mathlib.Core.List.{List, [], _∷_, _++_, map}
+use native.Mathlib.Omega.{arith}
+use lib.ListN.{length, getD}
+use Rattle.hypervolume.specs.Counts.{total, contribution}
+use Rattle.hypervolume.proofs.Dominance.{first, rest}
+use Rattle.hypervolume.proofs.Axes.{swapAt, total-swap, contribution-swap}
+use Rattle.sweep.specs.Points.{points}
+
+pub points-length : (xs ys zs : List ℕ) → length ys ≡ length xs → length zs ≡ length xs → length (points xs ys zs) ≡ length xs
+unfolding points
+points-length [] ys zs e f = refl
+points-length (x ∷ xs) [] zs e f = absurd (let no′ : ⊥ = omega arith in no′)
+points-length (x ∷ xs) (y ∷ ys) [] e f = absurd (let no′ : ⊥ = omega arith in no′)
+points-length (x ∷ xs) (y ∷ ys) (z ∷ zs) e f = ap suc (points-length xs ys zs (omega arith) (omega arith))
+
+pub points-at : (xs ys zs : List ℕ) (j : ℕ) → length ys ≡ length xs → length zs ≡ length xs → j < length xs → getD (points xs ys zs) j [] ≡ getD xs j 0 ∷ getD ys j 0 ∷ getD zs j 0 ∷ []
+unfolding points
+points-at [] ys zs j e f l = absurd (let no′ : ⊥ = omega arith in no′)
+points-at (x ∷ xs) [] zs j e f l = absurd (let no′ : ⊥ = omega arith in no′)
+points-at (x ∷ xs) (y ∷ ys) [] j e f l = absurd (let no′ : ⊥ = omega arith in no′)
+points-at (x ∷ xs) (y ∷ ys) (z ∷ zs) zero e f l = refl
+points-at (x ∷ xs) (y ∷ ys) (z ∷ zs) (suc j) e f l = points-at xs ys zs j (omega arith) (omega arith) (omega arith)
+
+-- z is put first, so that law 7 applies to it
+points-turned : (xs ys zs : List ℕ) → map (swapAt 0) (map (swapAt 1) (points xs ys zs)) ≡ points zs xs ys
+unfolding points swapAt first rest
+points-turned [] ys [] = refl
+points-turned [] ys (z ∷ zs) = refl
+points-turned (x ∷ xs) [] [] = refl
+points-turned (x ∷ xs) [] (z ∷ zs) = refl
+points-turned (x ∷ xs) (y ∷ ys) [] = refl
+points-turned (x ∷ xs) (y ∷ ys) (z ∷ zs) = ap (λ l. (z ∷ x ∷ y ∷ []) ∷ l) (points-turned xs ys zs)
+
+pub total-turned : (rx ry rz : ℕ) (xs ys zs : List ℕ) → total (rz ∷ rx ∷ ry ∷ []) (points zs xs ys) ≡ total (rx ∷ ry ∷ rz ∷ []) (points xs ys zs)
+total-turned rx ry rz xs ys zs =
+    rw (← (points-turned xs ys zs))
+    (total-swap [] (ry ∷ []) rx rz (map (swapAt 1) (points xs ys zs)) ∙ total-swap (rx ∷ []) [] ry rz (points xs ys zs))
+
+pub contribution-turned : (rx ry rz : ℕ) (xs ys zs : List ℕ) (x y z : ℕ) → contribution (rz ∷ rx ∷ ry ∷ []) (points zs xs ys) (z ∷ x ∷ y ∷ []) ≡ contribution (rx ∷ ry ∷ rz ∷ []) (points xs ys zs) (x ∷ y ∷ z ∷ [])
+unfolding swapAt first rest
+contribution-turned rx ry rz xs ys zs x y z =
+    rw (← (points-turned xs ys zs))
+    (contribution-swap [] (ry ∷ []) rx rz (map (swapAt 1) (points xs ys zs)) (x ∷ z ∷ y ∷ [])
+    ∙ contribution-swap (rx ∷ []) [] ry rz (points xs ys zs) (x ∷ y ∷ z ∷ []))

@@ -1,0 +1,89 @@
+-- How many entries of a line pass a test: line by line, part by part, and at one column of cells.
+use Prim.Native.Nat.{ℕ, zero, suc, _+_, _≤_, _<_, zero-le}
+use mathlib.Core.Path.{_≡_, refl, sym, ap, _∙_}
+use mathlib.Core.Bool.{Bool, true, false}
+use mathlib.Core.List.{List, [], _∷_, _++_}
+use native.Mathlib.Nat.{zero-add, add-zero, add-assoc}
+use native.Mathlib.Omega.{arith}
+use lib.Dec.{leb, eqb}
+use lib.ListN.{length, take, drop, getD, take-append-drop, length-take, length-drop}
+use lib.Seq.{getD-take, getD-drop}
+use borrow.Author.Tests.{le-leb, lt-leb}
+use Rattle.hypervolume.specs.Cells.{both, holds, dominates}
+use Rattle.hypervolume.proofs.Tests.{both-comm}
+use Rattle.sweep.specs.Line.{tally, spot, xOf, yOf, insertAt}
+
+pub tally-append : (test : ℕ → Bool) (s t : List ℕ) → tally test (s ++ t) ≡ tally test s + tally test t
+unfolding tally
+tally-append test [] t = sym (zero-add (tally test t))
+tally-append test (w ∷ s) t = rw (tally-append test s t, add-assoc)
+
+pub tally-insert : (test : ℕ → Bool) (at w : ℕ) (line : List ℕ) → tally test (insertAt at w line) ≡ holds (test w) + tally test line
+unfolding tally
+tally-insert test at w line =
+    let split : tally test (take at line ++ drop at line) ≡ tally test (take at line) + tally test (drop at line) =
+    tally-append test (take at line) (drop at line) in
+    let whole : tally test (take at line ++ drop at line) ≡ tally test line = ap (tally test) (take-append-drop at line) in
+    tally-append test (take at line) (w ∷ drop at line) ∙ omega arith
+
+pub tally-ext : (f g : ℕ → Bool) (line : List ℕ) → ((a : ℕ) → a < length line → f (getD line a 0) ≡ g (getD line a 0)) → tally f line ≡ tally g line
+unfolding tally
+tally-ext f g [] h = refl
+tally-ext f g (w ∷ line) h = rw (h 0 (omega arith), tally-ext f g line (λ a l. h (suc a) (omega arith)))
+
+pub tally-none : (f : ℕ → Bool) (line : List ℕ) → ((a : ℕ) → a < length line → f (getD line a 0) ≡ false) → tally f line ≡ 0
+unfolding tally holds
+tally-none f [] h = refl
+tally-none f (w ∷ line) h = rw (h 0 (omega arith), tally-none f line (λ a l. h (suc a) (omega arith)))
+
+-- Two tests that exclude each other, each with a part of a third.
+pub tally-parts : (f g h : ℕ → Bool) (line : List ℕ) → ((w : ℕ) → holds (f w) + holds (g w) ≤ holds (h w)) → tally f line + tally g line ≤ tally h line
+unfolding tally
+tally-parts f g h [] p = omega arith
+tally-parts f g h (w ∷ line) p =
+    let later : tally f line + tally g line ≤ tally h line = tally-parts f g h line p in
+    omega (arith, p w)
+
+-- At column i: the entries of a kind q that dominate the cell in row j. Where the first k entries have x at most i, those of
+-- them that are at most j on y are among these; where the others lie beyond i, these are all.
+module _ (q : ℕ → Bool) (line : List ℕ) (k i j : ℕ) (reach : (a : ℕ) → a < k → a < length line → xOf (getD line a 0) ≤ i) where
+  here : ℕ → Bool
+  here w = both (q w) (dominates (spot w) (i ∷ j ∷ []))
+
+  low : ℕ → Bool
+  low w = both (q w) (leb (yOf w) j)
+
+  reached : (w : ℕ) → xOf w ≤ i → here w ≡ low w
+  unfolding here low dominates both
+  reached w l = rw (le-leb (xOf w) i l, both-comm (leb (yOf w) j) true)
+
+  first-part : (a : ℕ) → a < length (take k line) → here (getD (take k line) a 0) ≡ low (getD (take k line) a 0)
+  first-part a l =
+      let m : a < k = omega (arith, length-take k line) in
+      let o : a < length line = omega (arith, length-take k line) in
+      rw (getD-take k line a 0 m) (reached (getD line a 0) (reach a m o))
+
+  split : tally here line ≡ tally low (take k line) + tally here (drop k line)
+  split =
+      ap (tally here) (sym (take-append-drop k line))
+      ∙ tally-append here (take k line) (drop k line)
+      ∙ ap (λ n. n + tally here (drop k line)) (tally-ext here low (take k line) first-part)
+
+  pub column-least : tally (λ w. both (q w) (leb (yOf w) j)) (take k line) ≤ tally (λ w. both (q w) (dominates (spot w) (i ∷ j ∷ []))) line
+  unfolding here low
+  column-least = omega (arith, split)
+
+  module _ (miss : (a : ℕ) → k ≤ a → a < length line → i < xOf (getD line a 0)) where
+    missed : (w : ℕ) → i < xOf w → here w ≡ false
+    unfolding here dominates both
+    missed w l = rw (lt-leb (xOf w) i l, both-comm (q w) false)
+
+    second-part : (a : ℕ) → a < length (drop k line) → here (getD (drop k line) a 0) ≡ false
+    second-part a l =
+        let m : k ≤ k + a = omega arith in
+        let o : k + a < length line = omega (arith, length-drop k line) in
+        rw (getD-drop k line a 0) (missed (getD line (k + a) 0) (miss (k + a) m o))
+
+    pub column-tally : tally (λ w. both (q w) (dominates (spot w) (i ∷ j ∷ []))) line ≡ tally (λ w. both (q w) (leb (yOf w) j)) (take k line)
+    unfolding here low
+    column-tally = split ∙ rw (tally-none here (drop k line) second-part) (add-zero (tally low (take k line)))

@@ -1,0 +1,53 @@
+-- One pass over the line, for the next point p: strips of columns that are alike.
+use Prim.Native.Nat.{ℕ, _+_, _-_, _*_, _≤_, _<_, max}
+use mathlib.Core.Path.{_≡_}
+use mathlib.Core.Bool.{Bool, true, false}
+use mathlib.Core.List.{List, [], _∷_}
+use lib.Dec.{ltb}
+use lib.ListN.{length, getD, set}
+use Rattle.sweep.specs.declared.column.Column.{Column}
+use Rattle.sweep.specs.Points.{Ascending}
+use Rattle.sweep.specs.Line.{placeOf, gainOver, sharedWith}
+
+abbrev pub pickColumn : Bool → Column → Column → Column
+pickColumn true a b = a
+pickColumn false a b = b
+
+-- The column with one more point passed, of height y and place `owner`.
+unfoldable pub columnWith : Column → ℕ → ℕ → Column
+columnWith c y owner =
+    pickColumn (ltb y (c .least)) (record { least = y; owner = owner; second = c .least })
+    (pickColumn (ltb y (c .second)) (record { least = c .least; owner = c .owner; second = y }) c)
+
+-- In one column: how many cells p dominates and no point passed does, and how many p and the owner alone do.
+abbrev pub alone : Column → ℕ → ℕ
+alone c py = c .least - py
+
+abbrev pub shared : Column → ℕ → ℕ
+shared c py = c .second - max (c .least) py
+
+-- Settling the columns from `from` up to `to`, which are alike: what it asks, and what it answers and leaves.
+pub record Settling (column : Column) (from to py height : ℕ) (out : List ℕ) : Type 0 where
+  pub owned : column .owner < length out
+  pub enough : height * ((to - from) * shared column py) ≤ getD out (column .owner) 0
+  pub to-small : to ≤ 1048576
+  pub least-small : column .least ≤ 1048576
+  pub second-small : column .second ≤ 1048576
+  pub height-small : height ≤ 1048576
+
+pub record Settled (column : Column) (from to py height : ℕ) (out left : List ℕ) (area : ℕ) : Type 0 where
+  pub gained : area ≡ (to - from) * alone column py
+  pub fallen : left ≡ set out (column .owner) (getD out (column .owner) 0 - height * ((to - from) * shared column py))
+
+-- The whole pass: what it asks, and what it answers and leaves. `height` is the number of layers.
+pub record Crossing (line : List ℕ) (px py rx ry height : ℕ) (out : List ℕ) : Type 0 where
+  pub rising : Ascending line
+  pub places : (k : ℕ) → placeOf (getD line k 0) < length out
+  pub rx-small : rx ≤ 1048576
+  pub ry-small : ry ≤ 1048576
+  pub height-small : height ≤ 1048576
+  pub enough : (j : ℕ) → height * sharedWith (rx ∷ ry ∷ []) line (px ∷ py ∷ []) j ≤ getD out j 0
+
+pub record Crossed (line : List ℕ) (px py rx ry height : ℕ) (out left : List ℕ) (area : ℕ) : Type 0 where
+  pub gained : area ≡ gainOver (rx ∷ ry ∷ []) line (px ∷ py ∷ [])
+  pub fallen : (j : ℕ) → getD left j 0 + height * sharedWith (rx ∷ ry ∷ []) line (px ∷ py ∷ []) j ≡ getD out j 0

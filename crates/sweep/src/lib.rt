@@ -1,0 +1,74 @@
+// The one counting algorithm of the archive: total and contributions of a list of points, and the gain of one more
+// point with its joint contributions.
+use hypervolume::Point;
+ghost use mathlib.Core.Path.{_≡_};
+ghost use mathlib.Core.List.{_++_, map};
+ghost use Prim.Native.Nat.{_≤_, max};
+ghost use lib.ListN.{length, drop};
+ghost use Rattle.hypervolume.specs.Counts.{total, gain, contributions, joints};
+ghost use Rattle.sweep.specs.Points.{points, Small, Ready};
+
+mod column;
+mod line;
+mod strips;
+
+// The total of the points, and in `out` the contribution of each.
+pub fn sweep(xs: &[u64], ys: &[u64], zs: &[u64], reference: Point, out: &mut [u64]) -> u64
+    requires { ⌜ Ready (now xs) (now ys) (now zs) (reference .at) (now out) ⌝ }
+    ensures total { λ r. ⌜ r ≡ total (reference .at) (points (now (xs .entry)) (now (ys .entry)) (now (zs .entry))) ⌝ }
+    ensures contributions { λ r. ⌜ now (out .exit) ≡ contributions (reference .at) (points (now (xs .entry)) (now (ys .entry)) (now (zs .entry))) ++ drop (length (now (xs .entry))) (now (out .entry)) ⌝ }
+{
+    let rx = reference.at[0] as u64;
+    let ry = reference.at[1] as u64;
+    let rz = reference.at[2];
+    let mut line = [0u64; 512];
+    let mut volume: u64 = 0;
+    let mut i: usize = 0;
+    while i < xs.len() {
+        let x = xs[i];
+        let y = ys[i];
+        let height = hypervolume::edge(rz, zs[i] as u32);
+        let own = height * strips::strips(&line[..i], x, y, rx, ry, height, out);
+        out[i] = own;
+        volume = volume + own;
+        line::place(&mut line, i, line::entry(x, y, i));
+        i = i + 1;
+    }
+    volume
+}
+
+// The coordinates of the upper corners of a point and the points of a list, on one axis.
+fn corners(src: &[u64], coordinate: u64, dst: &mut [u64])
+    requires { ⌜ length (now src) ≤ length (now dst) ⌝ }
+    ensures { λ _. ⌜ now (dst .exit) ≡ map (λ x. max coordinate x) (now (src .entry)) ++ drop (length (now (src .entry))) (now (dst .entry)) ⌝ }
+{
+    let mut i: usize = 0;
+    while i < src.len() {
+        dst[i] = column::larger(coordinate, src[i]);
+        i = i + 1;
+    }
+}
+
+// The gain of u over the points, and in `out` its joint contribution with each.
+pub fn update(
+    xs: &[u64],
+    ys: &[u64],
+    zs: &[u64],
+    u: Point,
+    reference: Point,
+    out: &mut [u64],
+) -> u64
+    requires { ⌜ Ready (now xs) (now ys) (now zs) (reference .at) (now out) × Small (u .at) ⌝ }
+    ensures gain { λ r. ⌜ r ≡ gain (reference .at) (points (now (xs .entry)) (now (ys .entry)) (now (zs .entry))) (u .at) ⌝ }
+    ensures joints { λ r. ⌜ now (out .exit) ≡ joints (reference .at) (points (now (xs .entry)) (now (ys .entry)) (now (zs .entry))) (u .at) ++ drop (length (now (xs .entry))) (now (out .entry)) ⌝ }
+{
+    let n = xs.len();
+    let mut cx = [0u64; 512];
+    let mut cy = [0u64; 512];
+    let mut cz = [0u64; 512];
+    corners(xs, u.at[0] as u64, &mut cx);
+    corners(ys, u.at[1] as u64, &mut cy);
+    corners(zs, u.at[2] as u64, &mut cz);
+    let covered = sweep(&cx[..n], &cy[..n], &cz[..n], reference, out);
+    u.edges(reference) - covered
+}

@@ -1,0 +1,52 @@
+// One pass over the points passed, in ascending x, for the next point p.
+ghost use Rattle.sweep.specs.Strips.{Settling, Settled, Crossing, Crossed};
+use crate::column::Column;
+use crate::column::larger;
+use crate::column::less;
+use crate::column::smaller;
+use crate::line::place_of;
+use crate::line::x_of;
+use crate::line::y_of;
+
+// The columns from `from` up to `to`, which are alike: the area that p gains there; and the owner's part of `out` falls by
+// what p shares there with it alone, `height` cells deep.
+fn settle(column: Column, from: u64, to: u64, py: u64, height: u64, out: &mut [u64]) -> u64
+    requires { ⌜ Settling column from to py height (now out) ⌝ }
+    ensures { λ r. ⌜ Settled column from to py height (now (out .entry)) (now (out .exit)) r ⌝ }
+{
+    if to <= from {
+        return 0;
+    }
+    let width = to - from;
+    let shared = less(column.second, larger(column.least, py));
+    let owner = column.owner;
+    out[owner] = out[owner] - height * (width * shared);
+    width * less(column.least, py)
+}
+
+// The area that p alone dominates in its layer; each point's part of `out` falls by what p shares with it alone.
+pub fn strips(line: &[u64], px: u64, py: u64, rx: u64, ry: u64, height: u64, out: &mut [u64]) -> u64
+    requires { ⌜ Crossing (now line) px py rx ry height (now out) ⌝ }
+    ensures { λ r. ⌜ Crossed (now (line .entry)) px py rx ry height (now (out .entry)) (now (out .exit)) r ⌝ }
+{
+    let mut column = Column {
+        least: ry,
+        owner: 0,
+        second: ry,
+    };
+    let mut at = smaller(px, rx);
+    let mut area: u64 = 0;
+    let mut k: usize = 0;
+    while k < line.len() {
+        if column.second <= py {
+            return area;
+        }
+        let entry = line[k];
+        let next = smaller(x_of(entry), rx);
+        area = area + settle(column, at, next, py, height, out);
+        at = larger(at, next);
+        column = column.with(y_of(entry), place_of(entry));
+        k = k + 1;
+    }
+    area + settle(column, at, rx, py, height, out)
+}

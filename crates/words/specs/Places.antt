@@ -1,0 +1,65 @@
+-- What the code passes by value, read in the terms of Archive, and records by their place in the words.
+use Prim.Native.Nat.{ℕ, zero, suc, _+_, _*_, _≤_, _<_}
+use mathlib.Core.Bool.{Bool, true, false, not}
+use mathlib.Core.Path.{_≡_}
+use mathlib.Core.List.{List, [], _∷_}
+use lib.Dec.{ltb}
+use lib.ListN.{length, drop}
+use Rattle.hypervolume.specs.Cells.{both, box}
+use Rattle.words.specs.Archive.{Row, Shape, reference, trials, before}
+use Rattle.words.specs.Layout.{word, read-row, read-rows, read-shape, extent}
+use Rattle.words.specs.Format.{header-allowed, row-allowed, rows-allowed, ordered, held, distinct}
+use Rattle.words.specs.declared.rows.Row as code-row
+use Rattle.words.specs.declared.rows.Shape as code-shape
+
+-- The code's structs as a record and a shape.
+abbrev pub as-row : code-row.Row → Row
+as-row r =
+    record { trial = record { number = r .number; x = r .x; y = r .y; z = r .z }; kept = r .kept }
+
+abbrev pub as-shape : code-shape.Shape → Shape
+as-shape s = record { capacity = s .capacity; rx = s .rx; ry = s .ry; rz = s .rz }
+
+-- The header's words for a count, a shape and a total.
+abbrev pub header-words : ℕ → Shape → ℕ → List ℕ
+header-words count s total = count ∷ s .capacity ∷ s .rx ∷ s .ry ∷ s .rz ∷ total ∷ 0 ∷ 0 ∷ []
+
+-- The record at a place, counted from 0, and the records before that place.
+unfoldable pub row-at : List ℕ → ℕ → Row
+row-at w i = read-row (drop (8 + 5 * i) w)
+
+abbrev pub rows-before : List ℕ → ℕ → List Row
+rows-before w i = read-rows i (drop 8 w)
+
+-- Whether the record at a place stands in order behind the one before it.
+unfoldable pub follows : List ℕ → ℕ → Bool
+follows w zero = true
+follows w (suc i) = before (row-at w i .trial) (row-at w (suc i) .trial)
+
+-- Row 3 at a place: the record is allowed, stands in order, and no record before it has its number.
+unfoldable pub stands : List ℕ → ℕ → Bool
+stands w i =
+    both (row-allowed (read-shape w) (row-at w i))
+    (both (follows w i) (not (held (row-at w i .trial .number) (trials (rows-before w i)))))
+
+-- Row 3 of the records alone: each allowed, in order, no number twice.
+unfoldable pub sound-rows : Shape → List Row → Bool
+sound-rows s rows = both (rows-allowed s rows) (both (ordered (trials rows)) (distinct (trials rows)))
+
+-- What the test at a place is given: the box, and whether the number's bit was set by a record before.
+pub record AtPlace (w : List ℕ) (cells i : ℕ) (met : Bool) : Type 0 where
+  pub inside : 8 + 5 * (i + 1) ≤ length w
+  pub boxed : cells ≡ box (reference (read-shape w))
+  pub unmet : met ≡ false → held (row-at w i .trial .number) (trials (rows-before w i)) ≡ false
+
+-- Words that rows 1 and 2 let pass.
+pub record Headed (w : List ℕ) : Type 0 where
+  pub allowed : header-allowed w ≡ true
+  pub whole : extent (word w 1) ≤ length w
+
+-- What a search for a number among the first n records finds: the first place that has it, or n where none has.
+pub record Found (w : List ℕ) (n number place : ℕ) : Type 0 where
+  pub inside : place ≤ n
+  pub holds : held number (trials (rows-before w n)) ≡ ltb place n
+  pub there : place < n → row-at w place .trial .number ≡ number
+  pub first : (k : ℕ) → k < place → row-at w k .trial .number ≡ number → ⊥

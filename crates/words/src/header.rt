@@ -1,0 +1,22 @@
+// The header, written in place.
+use crate::rows::Shape;
+ghost use mathlib.Core.Path.{_≡_};
+ghost use mathlib.Core.List.{_++_};
+ghost use Prim.Native.Nat.{_≤_};
+ghost use lib.ListN.{length, drop};
+ghost use Rattle.words.specs.Places.{as-shape, header-words};
+
+// Writes the header.
+pub fn put_header(w: &mut [u64], count: u64, s: Shape, total: u64)
+    requires { ⌜ 8 ≤ length (now w) ⌝ }
+    ensures { λ r. ⌜ now (w .exit) ≡ header-words count (as-shape s) total ++ drop 8 (now (w .entry)) ⌝ }
+{
+    w[0] = count;
+    w[1] = s.capacity;
+    w[2] = s.rx;
+    w[3] = s.ry;
+    w[4] = s.rz;
+    w[5] = total;
+    w[6] = 0;
+    w[7] = 0;
+}

@@ -1,0 +1,74 @@
+// Records and the header, read from the words.
+ghost use mathlib.Core.Path.{_≡_};
+ghost use Prim.Native.Nat.{_+_, _*_, _≤_};
+ghost use lib.ListN.{length};
+ghost use Rattle.words.specs.Layout.{read-shape, word};
+ghost use Rattle.words.specs.Places.{as-row, as-shape, row-at, Found};
+
+// A record by value: its trial number, its point and its kept contribution.
+pub struct Row {
+    pub number: u64,
+    pub x: u64,
+    pub y: u64,
+    pub z: u64,
+    pub kept: u64,
+}
+
+// What a start fixes: the capacity and the reference point.
+pub struct Shape {
+    pub capacity: u64,
+    pub rx: u64,
+    pub ry: u64,
+    pub rz: u64,
+}
+
+// The record at place i.
+pub fn row_at(w: &[u64], i: usize) -> Row
+    requires { ⌜ 8 + 5 * (i + 1) ≤ length (now w) ⌝ }
+    ensures { λ r. ⌜ as-row r ≡ row-at (now (w .entry)) i ⌝ }
+{
+    let at = 8 + 5 * i;
+    Row {
+        number: w[at],
+        x: w[at + 1],
+        y: w[at + 2],
+        z: w[at + 3],
+        kept: w[at + 4],
+    }
+}
+
+// The capacity and the reference that the header holds.
+pub fn shape_of(w: &[u64]) -> Shape
+    requires { ⌜ 8 ≤ length (now w) ⌝ }
+    ensures { λ r. ⌜ as-shape r ≡ read-shape (now (w .entry)) ⌝ }
+{
+    Shape {
+        capacity: w[1],
+        rx: w[2],
+        ry: w[3],
+        rz: w[4],
+    }
+}
+
+// The first of the first n records that has this number: its place, or n where none has.
+pub fn search(w: &[u64], n: usize, number: u64) -> usize
+    requires { ⌜ 8 + 5 * n ≤ length (now w) ⌝ }
+    ensures { λ r. ⌜ Found (now (w .entry)) n number r ⌝ }
+{
+    let mut i: usize = 0;
+    while i < n {
+        if w[8 + 5 * i] == number {
+            return i;
+        }
+        i += 1;
+    }
+    i
+}
+
+// The place of the record of this number, or the count where it is not held.
+pub fn find(w: &[u64], number: u64) -> usize
+    requires { ⌜ 8 + 5 * word (now w) 0 ≤ length (now w) ⌝ }
+    ensures { λ r. ⌜ Found (now (w .entry)) (word (now (w .entry)) 0) number r ⌝ }
+{
+    search(w, w[0] as usize, number)
+}
