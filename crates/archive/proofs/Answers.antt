@@ -16,7 +16,7 @@ use Rattle.words.specs.Format.{guard, shape-allowed, archive-rows}
 use Rattle.words.specs.Places.{rows-before, header-words}
 use Rattle.words.proofs.Passed.{Passed, Sound, passed, passes-again, still-refused, ShapeBounds, shape-bounds, bounds-shape, box-bound}
 use Rattle.archive.specs.declared.Answer.{Answer}
-use Rattle.archive.specs.declared.Least.{Least}
+use Rattle.archive.specs.declared.LeastAnswer.{LeastAnswer}
 use Rattle.archive.specs.Calls.{empty, least-row, least-rows}
 use Rattle.archive.specs.Lent.{Outcome, leaves, answer, start, start-rows, least-answer}
 
@@ -105,3 +105,30 @@ start-done w w₁ w₂ s t end e f g l e₁ e₂ =
     ∙ ap (λ k. header-words 0 s 0 ++ k) (tail ∙ ap (λ k. replicate (5 * k) 0 ++ rest) (sym (sub-zero (s .capacity)))) in
     let left = leaves-done w [] (start-rows w s) 0 (layout (empty s) ++ drop (8 + 5 * s .capacity) w) [] row in
     (sym (ap (λ (x : Outcome). x .refusal) left), after ∙ sym (ap (λ (x : Outcome). x .words) left))
+
+-- What is known of words that pass, for code that reads them.
+pub record Known (w : List ℕ) : Type 0 where
+  pub few : word w 0 ≤ 512
+  pub held-within : word w 0 ≤ word w 1
+  pub records-long : 8 + 5 * word w 0 ≤ length w
+  pub long : 8 + 5 * word w 1 ≤ length w
+  pub shaped : shape-allowed (read-shape w) ≡ true
+  pub boxed : word w 5 ≤ box (reference (read-shape w))
+  pub box-small : box (reference (read-shape w)) ≤ 1152921504606846976
+  pub sound : Sound (read w)
+
+pub known : (w : List ℕ) → archive-rows w 0 ≡ 0 → Known w
+unfolding read read-shape
+known w e =
+    let p : Passed w = passed w e in
+    let capacity : word w 1 ≤ 512 = p .bounds .capacity-high in
+    record {
+      few = omega (arith, p .counted);
+      held-within = p .counted;
+      records-long = omega (arith, p .counted, p .long);
+      long = p .long;
+      shaped = p .sound .shaped;
+      boxed = p .sound .within-box;
+      box-small = box-bound (read-shape w) (p .bounds);
+      sound = p .sound;
+    }

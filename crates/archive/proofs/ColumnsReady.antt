@@ -9,6 +9,7 @@ use lib.ListN.{length, getD, take, drop, length-append, length-take, length-drop
 use lib.Seq.{take-at, drop-cons}
 use Rattle.hypervolume.specs.Cells.{both}
 use Rattle.hypervolume.proofs.Tests.{both-true, both-intro}
+use Rattle.hypervolume.specs.Counts.{total, contributions, gain, joints}
 use Rattle.sweep.specs.Points as sweep-points
 use Rattle.sweep.specs.Points.{Small, Ready}
 use Rattle.words.specs.Archive.{Trial, Row, Shape, Archive, point, reference, trials, points, before}
@@ -18,6 +19,7 @@ use Rattle.words.specs.Places.{rows-before}
 use Rattle.words.proofs.Passed.{Passed, passed, Sound, ShapeBounds, RowBounds, row-bounds}
 use Rattle.words.proofs.Lists.{rows-allowed-append}
 use Rattle.archive.specs.Calls.{others}
+use Rattle.archive.specs.Amounts.{CountedAll, CountedJoints}
 use Rattle.archive.specs.Columns.{field-of, column, leave-out}
 use Rattle.archive.proofs.Fields.{length-column, leave-none}
 use Rattle.archive.proofs.Order.{Ascent, lower, level, ascent, ordered-ascending, ascending-ordered, others-ascending}
@@ -65,7 +67,7 @@ column-rising (r ∷ s ∷ rows) o (suc k) l =
     column-rising (s ∷ rows) (both-true (before (r .trial) (s .trial)) (ordered (trials (s ∷ rows))) o .1) k (omega arith)
 
 -- Leaving one record out keeps the others allowed and in order.
-left-allowed : (s : Shape) (rows : List Row) (k : ℕ) → rows-allowed s rows ≡ true → rows-allowed s (leave-out k rows) ≡ true
+pub left-allowed : (s : Shape) (rows : List Row) (k : ℕ) → rows-allowed s rows ≡ true → rows-allowed s (leave-out k rows) ≡ true
 unfolding leave-out rows-allowed
 left-allowed s [] zero h = refl
 left-allowed s [] (suc k) h = refl
@@ -122,4 +124,72 @@ columns-ready w out k e l room R is =
       zs-small = column-small (read-shape w) R 2 (p .bounds) allowed (omega arith);
       reference-small = reference-small (read-shape w) (p .bounds);
       rising = column-rising R rising;
+    }
+
+-- A loaded column: the first m words of the array.
+loaded : (R : List Row) (k m : ℕ) (xs rest : List ℕ) → m ≡ length R → xs ≡ column k R ++ rest → take m xs ≡ column k R
+loaded R k m xs rest e is = ap (take m) is ∙ take-at (column k R) rest m (length-column k R ∙ sym e)
+
+-- Three loaded columns, and the reference, as the sweep is given them.
+pub record Columns (w : List ℕ) (k m : ℕ) (xs ys zs r : List ℕ) : Type 0 where
+  pub many : m ≡ length (leave-out k (rows-before w (word w 0)))
+  pub first : take m xs ≡ column 1 (leave-out k (rows-before w (word w 0)))
+  pub second : take m ys ≡ column 2 (leave-out k (rows-before w (word w 0)))
+  pub third : take m zs ≡ column 3 (leave-out k (rows-before w (word w 0)))
+  pub under : r ≡ reference (read-shape w)
+
+pub columns-loaded : (w : List ℕ) (k m : ℕ) (xs ys zs r restx resty restz : List ℕ) (s : Shape) → let R = leave-out k (rows-before w (word w 0)) in
+    (m ≡ length R) → (xs ≡ column 1 R ++ restx) → (ys ≡ column 2 R ++ resty) → (zs ≡ column 3 R ++ restz)
+    → s ≡ read-shape w → r ≡ reference s → Columns w k m xs ys zs r
+columns-loaded w k m xs ys zs r restx resty restz s em ex ey ez es er =
+    let R = leave-out k (rows-before w (word w 0)) in
+    record {
+      many = em;
+      first = loaded R 1 m xs restx em ex;
+      second = loaded R 2 m ys resty em ey;
+      third = loaded R 3 m zs restz em ez;
+      under = er ∙ ap reference es;
+    }
+
+pub columns-are-ready : {w : List ℕ} {k m : ℕ} {xs ys zs r : List ℕ} (out : List ℕ) → Columns w k m xs ys zs r → archive-rows w 0 ≡ 0 → k ≤ word w 0 → 512 ≤ length out → Ready (take m xs) (take m ys) (take m zs) r out
+columns-are-ready {w} {k} out c e l room =
+    rw (c .first, c .second, c .third, c .under)
+    (columns-ready w out k e l room (leave-out k (rows-before w (word w 0))) refl)
+
+columns-hold : {w : List ℕ} {k m : ℕ} {xs ys zs r : List ℕ} → Columns w k m xs ys zs r → sweep-points.points (take m xs) (take m ys) (take m zs) ≡ points (trials (leave-out k (rows-before w (word w 0))))
+columns-hold {w} {k} c = rw (c .first, c .second, c .third) (columns-points (leave-out k (rows-before w (word w 0))))
+
+columns-many : {w : List ℕ} {k m : ℕ} {xs ys zs r : List ℕ} → Columns w k m xs ys zs r → length (take m xs) ≡ length (leave-out k (rows-before w (word w 0)))
+columns-many {w} {k} c = ap length (c .first) ∙ length-column 1 (leave-out k (rows-before w (word w 0)))
+
+pub joints-counted : {w : List ℕ} {k m : ℕ} {xs ys zs r : List ℕ} (p before after : List ℕ) (answer : ℕ) → Columns w k m xs ys zs r
+    → answer ≡ gain r (sweep-points.points (take m xs) (take m ys) (take m zs)) p
+    → after ≡ joints r (sweep-points.points (take m xs) (take m ys) (take m zs)) p ++ drop (length (take m xs)) before
+    → CountedJoints w k p before after answer
+unfolding read
+joints-counted {w} {k} {m} {xs} {ys} {zs} {r} p before after answer c g e =
+    record {
+      whole = g ∙ ap₂ (λ r q. gain r q p) (c .under) (columns-hold c);
+      each =
+          e
+          ∙ ap (λ n. joints r (sweep-points.points (take m xs) (take m ys) (take m zs)) p ++ drop n before) (columns-many c)
+          ∙ ap₂ (λ r q. joints r q p ++ drop (length (leave-out k (rows-before w (word w 0)))) before) (c .under) (columns-hold c);
+    }
+
+pub all-counted : {w : List ℕ} {m : ℕ} {xs ys zs r : List ℕ} (before after : List ℕ) (answer : ℕ) → Columns w (word w 0) m xs ys zs r
+    → answer ≡ total r (sweep-points.points (take m xs) (take m ys) (take m zs))
+    → after ≡ contributions r (sweep-points.points (take m xs) (take m ys) (take m zs)) ++ drop (length (take m xs)) before
+    → CountedAll w before after answer
+unfolding read
+all-counted {w} {m} {xs} {ys} {zs} {r} before after answer c g e =
+    let none : leave-out (word w 0) (rows-before w (word w 0)) ≡ rows-before w (word w 0) =
+    leave-none (rows-before w (word w 0)) (word w 0) (let size : length (rows-before w (word w 0)) ≡ word w 0 = count-rows w in omega arith) in
+    let hold : sweep-points.points (take m xs) (take m ys) (take m zs) ≡ points (trials (rows-before w (word w 0))) =
+    columns-hold c ∙ ap (λ x. points (trials x)) none in
+    record {
+      whole = g ∙ ap₂ (λ r q. total r q) (c .under) hold;
+      each =
+          e
+          ∙ ap (λ n. contributions r (sweep-points.points (take m xs) (take m ys) (take m zs)) ++ drop n before) (columns-many c ∙ ap length none)
+          ∙ ap₂ (λ r q. contributions r q ++ drop (length (rows-before w (word w 0))) before) (c .under) hold;
     }

@@ -23,3 +23,9 @@ pub mod MovedRows
 pub mod Stored
 pub mod Answers
 pub mod ColumnsReady
+pub mod Updates
+pub mod Removals
+pub mod Asking
+pub mod AskingJoint
+pub mod AskingAudit
+pub mod Reductions

@@ -10,11 +10,7 @@ use Rattle.words.specs.Archive.{Trial, Row, Archive, point, trials, points, eit
 use Rattle.words.specs.Layout.{record-words}
 use Rattle.archive.specs.Calls.{joint-with, lowered, falls-below, raised, exceeds, reference-of, held-points, box-of}
 use Rattle.archive.specs.Columns.{field-of, column, rekept}
-use Rattle.archive.specs.Amounts.{moved, some-pair}
-
--- The joint counts of t with these records.
-unfoldable pub shares : Archive → Trial → List Row → List ℕ
-shares a t rows = map (joint-with a t) rows
+use Rattle.archive.specs.Amounts.{moved, some-pair, shares}
 
 pub length-shares : (a : Archive) (t : Trial) (rows : List Row) → length (shares a t rows) ≡ length rows
 unfolding shares

@@ -1,6 +1,7 @@
 -- What each call answers and what every lent slice then holds (document 00, term 1; document 01, "Calls"). These
 -- are the definitions that the contracts cite, for any words and any arguments.
 use Prim.Native.Nat.{ℕ, zero, suc, _-_}
+use mathlib.Core.Path.{_≡_}
 use mathlib.Core.Bool.{Bool, true, false, not}
 use mathlib.Core.List.{List, [], _∷_, _++_}
 use lib.Dec.{ltb}
@@ -11,7 +12,7 @@ use Rattle.words.specs.Archive.{Trial, Row, Shape, Archive, point}
 use Rattle.words.specs.Layout.{layout, read, extent, behind}
 use Rattle.words.specs.Format.{guard, shape-allowed, archive-rows}
 use Rattle.archive.specs.declared.Answer.{Answer}
-use Rattle.archive.specs.declared.Least.{Least}
+use Rattle.archive.specs.declared.LeastAnswer.{LeastAnswer}
 use Rattle.archive.specs.Calls.{empty, inserted, insert-rows, removed, remove-rows, least-row, least-rows, joint-of, joint-rows, insert-gain, gain-rows, share-of, audited, after-drops, notes, reduce-rows}
 
 -- A trial from a number and the coordinates of a point, in the order of the axes.
@@ -58,11 +59,11 @@ unfoldable pub remove : List ℕ → ℕ → Outcome
 remove w n = leaves w [] (archive-rows w (remove-rows (read w) n)) 0 (layout (removed (read w) n) ++ behind w) []
 
 -- Least: "number and kept contribution".
-unfoldable pub least-answer : ℕ → Row → Least
+unfoldable pub least-answer : ℕ → Row → LeastAnswer
 least-answer zero r = record { refusal = 0; number = r .trial .number; contribution = r .kept }
 least-answer (suc n) r = record { refusal = suc n; number = 0; contribution = 0 }
 
-unfoldable pub least : List ℕ → Least
+unfoldable pub least : List ℕ → LeastAnswer
 least w = least-answer (archive-rows w (least-rows (read w))) (least-row (read w .rows))
 
 -- Reduce (k, log): "it answers the count of drops".
@@ -71,6 +72,12 @@ reduce w k log =
     leaves w log (archive-rows w (reduce-rows (read w) k (length log))) (length (read w .rows) - k)
     (layout (after-drops (length (read w .rows) - k) (read w)) ++ behind w)
     (notes (length (read w .rows) - k) (read w))
+
+-- The answer, the archive slice and the log of a reduction are those of its outcome.
+pub record Reduced (o : Outcome) (r : Answer) (words log : List ℕ) : Type 0 where
+  pub answered : r ≡ record { refusal = o .refusal; value = o .value }
+  pub left : words ≡ o .words
+  pub noted : log ≡ o .log
 
 -- Joint (two numbers), gain (point), share, audit (1 for yes).
 unfoldable pub joint : List ℕ → ℕ → ℕ → Answer

@@ -1,8 +1,8 @@
 // Contributions moved by counted amounts, and whether they stay from 0 to the box (row 13).
 ghost use mathlib.Core.Path.{_≡_};
-ghost use mathlib.Core.Bool.{Bool, false};
+ghost use mathlib.Core.Bool.{Bool, false, not};
 ghost use Prim.Native.Nat.{_+_, _-_, _≤_};
-ghost use lib.Dec.{ltb};
+ghost use lib.Dec.{ltb, eqb};
 ghost use lib.ListN.{length};
 ghost use Rattle.archive.specs.Amounts.{moved, some-pair, Each};
 
@@ -14,6 +14,21 @@ pub fn some_below(values: &[u64], amounts: &[u64]) -> bool
     let mut i = 0;
     while i < values.len() {
         if values[i] < amounts[i] {
+            return true;
+        }
+        i += 1;
+    }
+    false
+}
+
+// Whether some value differs from its amount.
+pub fn some_differs(values: &[u64], amounts: &[u64]) -> bool
+    requires { ⌜ length (now amounts) ≡ length (now values) ⌝ }
+    ensures { λ r. ⌜ r ≡ some-pair (λ v m. not (eqb v m)) (now (values .entry)) (now (amounts .entry)) ⌝ }
+{
+    let mut i = 0;
+    while i < values.len() {
+        if values[i] != amounts[i] {
             return true;
         }
         i += 1;
@@ -60,4 +75,10 @@ pub fn raise(values: &mut [u64], amounts: &[u64])
         values[i] = values[i] + amounts[i];
         i += 1;
     }
+}
+
+// What an update came to: the new or removed trial's counted amount, and whether every number stays from 0 to the box.
+pub struct Moved {
+    pub amount: u64,
+    pub fits: bool,
 }

@@ -9,14 +9,30 @@ pub struct Answer {
 
 // The answer of least.
 #[repr(C)]
-pub struct Least {
+pub struct LeastAnswer {
     pub refusal: u64,
     pub number: u64,
     pub contribution: u64,
 }
 
 mod amounts;
+mod ask;
+mod counts;
+mod division;
+mod insertion;
 mod records;
-mod share;
+mod reduction;
+mod removal;
 mod shifts;
+mod starting;
 mod strides;
+
+pub use ask::audit;
+pub use ask::gain;
+pub use ask::joint;
+pub use ask::least;
+pub use ask::share;
+pub use insertion::insert;
+pub use reduction::reduce;
+pub use removal::remove;
+pub use starting::start;

@@ -1,45 +1,45 @@
 -- One column of cells: the state (least y, its owner, second least y) of the points passed says how many of them
 -- dominate each cell of the column, so the cells that count for the next point are an interval of rows.
-use Prim.Native.Nat.{ℕ, zero, suc, _+_, _-_, _*_, _≤_, _<_, max}
+use Prim.Native.Nat.{ℕ, suc, _+_, _-_, _*_, _≤_, _<_, max}
 use mathlib.Core.Path.{_≡_, refl, sym, ap, _∙_}
 use mathlib.Core.Bool.{Bool, true, false}
 use mathlib.Core.List.{List, [], _∷_, _++_}
-use native.Mathlib.Nat.{zero-add, add-zero, mul-one, mul-zero}
+use native.Mathlib.Nat.{add-zero}
 use native.Mathlib.Decide.{decLe}
 use native.Mathlib.Omega.{arith}
 use lib.Dec.{leb, eqb, ltb}
-use borrow.Author.Tests.{le-leb, lt-leb, lt-ltb, le-ltb, eq-eqb, ne-eqb}
+use borrow.Author.Tests.{le-leb, lt-leb, eq-eqb, ne-eqb}
 use Rattle.hypervolume.specs.Cells.{both, holds, sum}
 use Rattle.hypervolume.proofs.Sums.{sum-none, sum-steady}
 use Rattle.hypervolume.proofs.Tests.{Compared, below, above, compared, Equated, same, differs, equated, both-le-right}
 use Rattle.sweep.specs.declared.column.Column.{Column}
-use Rattle.sweep.specs.Line.{tally, yOf, placeOf}
+use Rattle.sweep.specs.Line.{tally, yOf, indexOf}
 use Rattle.sweep.specs.Strips.{pickColumn, columnWith, alone, shared}
 use Rattle.sweep.proofs.Tallies.{tally-append, tally-parts}
 
--- How many of the entries passed are at most j on y, and how many of those are of the point at place t.
+-- How many of the entries passed are at most j on y, and how many of those are of the point of index t.
 unfoldable pub low : List ℕ → ℕ → ℕ
 low passed j = tally (λ w. leb (yOf w) j) passed
 
 unfoldable pub lowBy : ℕ → List ℕ → ℕ → ℕ
-lowBy t passed j = tally (λ w. both (eqb (placeOf w) t) (leb (yOf w) j)) passed
+lowBy t passed j = tally (λ w. both (eqb (indexOf w) t) (leb (yOf w) j)) passed
 
 pub low-more : (passed : List ℕ) (w j : ℕ) → low (passed ++ (w ∷ [])) j ≡ low passed j + holds (leb (yOf w) j)
 unfolding low tally
 low-more passed w j = tally-append (λ v. leb (yOf v) j) passed (w ∷ []) ∙ ap (λ k. low passed j + k) (add-zero (holds (leb (yOf w) j)))
 
-pub lowBy-more : (t : ℕ) (passed : List ℕ) (w j : ℕ) → lowBy t (passed ++ (w ∷ [])) j ≡ lowBy t passed j + holds (both (eqb (placeOf w) t) (leb (yOf w) j))
+pub lowBy-more : (t : ℕ) (passed : List ℕ) (w j : ℕ) → lowBy t (passed ++ (w ∷ [])) j ≡ lowBy t passed j + holds (both (eqb (indexOf w) t) (leb (yOf w) j))
 unfolding lowBy tally
 lowBy-more t passed w j =
-    tally-append (λ v. both (eqb (placeOf v) t) (leb (yOf v) j)) passed (w ∷ [])
-    ∙ ap (λ k. lowBy t passed j + k) (add-zero (holds (both (eqb (placeOf w) t) (leb (yOf w) j))))
+    tally-append (λ v. both (eqb (indexOf v) t) (leb (yOf v) j)) passed (w ∷ [])
+    ∙ ap (λ k. lowBy t passed j + k) (add-zero (holds (both (eqb (indexOf w) t) (leb (yOf w) j))))
 
 -- An entry is of one point only.
 pub lowBy-others : (s t : ℕ) (passed : List ℕ) (j : ℕ) → (s ≡ t → ⊥) → lowBy s passed j + lowBy t passed j ≤ low passed j
 unfolding low lowBy both holds
 lowBy-others s t passed j n =
-    tally-parts (λ w. both (eqb (placeOf w) s) (leb (yOf w) j)) (λ w. both (eqb (placeOf w) t) (leb (yOf w) j)) (λ w. leb (yOf w) j) passed
-    (λ w. one (leb (yOf w) j) (placeOf w))
+    tally-parts (λ w. both (eqb (indexOf w) s) (leb (yOf w) j)) (λ w. both (eqb (indexOf w) t) (leb (yOf w) j)) (λ w. leb (yOf w) j) passed
+    (λ w. one (leb (yOf w) j) (indexOf w))
   where
     one : (d : Bool) (p : ℕ) → holds (both (eqb p s) d) + holds (both (eqb p t) d) ≤ holds d
     one d p = go (eqb p s) (eqb p t) (equated p s) (equated p t)
@@ -110,19 +110,19 @@ module _ {ry : ℕ} {passed : List ℕ} {column : Column} (h : Standing ry passe
   unfolding all
   low-all j = low-more passed w j
 
-  lowBy-all : (t j : ℕ) → lowBy t all j ≡ lowBy t passed j + holds (both (eqb (placeOf w) t) (leb (yOf w) j))
+  lowBy-all : (t j : ℕ) → lowBy t all j ≡ lowBy t passed j + holds (both (eqb (indexOf w) t) (leb (yOf w) j))
   unfolding all
   lowBy-all t j = lowBy-more t passed w j
 
   -- the new point is the lowest
-  standing-least : yOf w < column .least → Standing ry all (record { least = yOf w; owner = placeOf w; second = column .least })
+  standing-least : yOf w < column .least → Standing ry all (record { least = yOf w; owner = indexOf w; second = column .least })
   standing-least y =
       record {
         ordered = omega arith;
         top = omega arith;
         none = λ j l. omega (arith, low-all j, beyond (yOf w) j l, h .none j (omega arith));
         one = λ j l m. omega (arith, low-all j, under (yOf w) j l, h .none j m);
-        owned = λ j l m. omega (arith, lowBy-all (placeOf w) j, mine (placeOf w) (yOf w) j l, lowBy-le (placeOf w) passed j, h .none j m);
+        owned = λ j l m. omega (arith, lowBy-all (indexOf w) j, mine (indexOf w) (yOf w) j l, lowBy-le (indexOf w) passed j, h .none j m);
         more = λ j l m. omega (arith, low-all j, under (yOf w) j (let u : yOf w ≤ j = omega arith in u), standing-some h j l m);
       }
 
@@ -135,7 +135,7 @@ module _ {ry : ℕ} {passed : List ℕ} {column : Column} (h : Standing ry passe
         none = λ j l. omega (arith, low-all j, beyond (yOf w) j (let u : j < yOf w = omega arith in u), h .none j l);
         one = λ j l m. omega (arith, low-all j, beyond (yOf w) j m, h .one j l (let u : j < column .second = omega arith in u));
         owned = λ j l m.
-            omega (arith, lowBy-all (column .owner) j, yours (eqb (placeOf w) (column .owner)) (yOf w) j m, h .owned j l (let u : j < column .second = omega arith in u));
+            omega (arith, lowBy-all (column .owner) j, yours (eqb (indexOf w) (column .owner)) (yOf w) j m, h .owned j l (let u : j < column .second = omega arith in u));
         more = λ j l m.
             omega (arith, low-all j, under (yOf w) j l, standing-some h j (let u : column .least ≤ j = omega arith in u) m);
       }
@@ -149,15 +149,15 @@ module _ {ry : ℕ} {passed : List ℕ} {column : Column} (h : Standing ry passe
         none = λ j l. omega (arith, low-all j, beyond (yOf w) j (let u : j < yOf w = omega (arith, h .ordered) in u), h .none j l);
         one = λ j l m. omega (arith, low-all j, beyond (yOf w) j (let u : j < yOf w = omega arith in u), h .one j l m);
         owned = λ j l m.
-            omega (arith, lowBy-all (column .owner) j, yours (eqb (placeOf w) (column .owner)) (yOf w) j (let u : j < yOf w = omega arith in u), h .owned j l m);
+            omega (arith, lowBy-all (column .owner) j, yours (eqb (indexOf w) (column .owner)) (yOf w) j (let u : j < yOf w = omega arith in u), h .owned j l m);
         more = λ j l m. omega (arith, low-all j, h .more j l m);
       }
 
-  pub standing-more : Standing ry (passed ++ (w ∷ [])) (columnWith column (yOf w) (placeOf w))
+  pub standing-more : Standing ry (passed ++ (w ∷ [])) (columnWith column (yOf w) (indexOf w))
   unfolding all columnWith
   standing-more = go (ltb (yOf w) (column .least)) (ltb (yOf w) (column .second)) (compared (suc (yOf w)) (column .least)) (compared (suc (yOf w)) (column .second))
     where
-      go : (a b : Bool) → Compared (suc (yOf w)) (column .least) a → Compared (suc (yOf w)) (column .second) b → Standing ry all (pickColumn a (record { least = yOf w; owner = placeOf w; second = column .least }) (pickColumn b (record { least = column .least; owner = column .owner; second = yOf w }) column))
+      go : (a b : Bool) → Compared (suc (yOf w)) (column .least) a → Compared (suc (yOf w)) (column .second) b → Standing ry all (pickColumn a (record { least = yOf w; owner = indexOf w; second = column .least }) (pickColumn b (record { least = column .least; owner = column .owner; second = yOf w }) column))
       go true true (below p) (below q) = standing-least p
       go true false (below p) (above q) = standing-least p
       go false true (above p) (below q) = standing-second (omega arith) q
@@ -191,7 +191,7 @@ sum-interval n a b f l before inside after = go (decLe a b)
         omega (arith, high)
 
 -- The rows of the column that p, from py on, dominates and no point passed does; and those that it dominates with
--- the point at place t alone.
+-- the point of index t alone.
 unfoldable pub gainRow : List ℕ → ℕ → ℕ → ℕ
 gainRow passed py j = holds (both (leb py j) (eqb (low passed j) 0))
 

@@ -3,14 +3,14 @@
 use Prim.Native.Nat.{ℕ, zero, suc, _+_, _-_, _*_, _^_, _≤_, _<_, max, min}
 use mathlib.Core.Path.{_≡_, refl, sym, ap, _∙_}
 use mathlib.Core.Bool.{Bool, true, false}
-use mathlib.Core.List.{List, [], _∷_, _++_}
+use mathlib.Core.List.{List, [], _∷_}
 use native.Mathlib.Nat.{add-zero, zero-mul, mul-zero, sub-zero, mul-le-mul, mul-le-mul-left, mul-add}
 use native.Mathlib.Decide.{decLe, ℕ-discrete}
 use native.Mathlib.Numerals.{add-one}
 use native.Mathlib.Omega.{arith}
 use lib.Dec.{leb, eqb}
 use lib.ListN.{length, take, getD, set, length-set}
-use lib.Seq.{set-getD, getD-set-same, getD-set-other, take-suc, take-length}
+use lib.Seq.{set-getD, getD-set-same, getD-set-other, take-suc}
 use borrow.Author.Tests.{le-leb, lt-leb, ne-eqb}
 use borrow.Author.Count.{below-more}
 use Rattle.hypervolume.specs.Cells.{both, holds, dominates, sum, cells, count}
@@ -18,7 +18,7 @@ use Rattle.hypervolume.proofs.Sums.{sum-ext, sum-le, sum-const, sum-none, sum-s
 use Rattle.hypervolume.proofs.Tests.{Compared, below, compared, both-comm, holds-le-one}
 use Rattle.sweep.specs.declared.column.Column.{Column}
 use Rattle.sweep.specs.Points.{Ascending}
-use Rattle.sweep.specs.Line.{xOf, yOf, placeOf, spot, over, overBy, gainOver, sharedWith}
+use Rattle.sweep.specs.Line.{xOf, yOf, indexOf, over, overBy, gainOver, sharedWith}
 use Rattle.sweep.specs.Strips.{columnWith, alone, shared, Settling, Settled, Crossing, Crossed}
 use Rattle.sweep.proofs.Lists.{ascending-at}
 use Rattle.sweep.proofs.Tallies.{column-least, column-tally}
@@ -43,7 +43,7 @@ settled-none column from to py height out l =
           (set-getD out (column .owner) 0));
     }
 
--- A strip of some width: the products fit, the owner's part is large enough, and what is left.
+-- A strip of some width: the products fit, the owner's contribution is large enough, and what is left.
 module _ {column : Column} {from to py height : ℕ} {out : List ℕ} (h : Settling column from to py height out) {s : ℕ} (e : s ≡ shared column py) where
   depth-small : s ≤ 1048576
   depth-small = rw e (omega arith)
@@ -70,7 +70,7 @@ module _ {column : Column} {from to py height : ℕ} {out : List ℕ} (h : Settl
     settled-some = record { gained = rw f; fallen = rw e }
 
 -- Column i of the layer: how many of its cells p dominates and no entry does, and how many p dominates with the point
--- at place t alone. Over all columns these are gainOver and sharedWith.
+-- of index t alone. Over all columns these are gainOver and sharedWith.
 unfoldable pub gainIn : List ℕ → ℕ → ℕ → ℕ → ℕ → ℕ
 gainIn line px py ry i =
     sum ry (λ j. holds (both (dominates (px ∷ py ∷ []) (i ∷ j ∷ [])) (eqb (over line (i ∷ j ∷ [])) 0)))
@@ -106,7 +106,7 @@ swept-none {line} {px} {py} {rx} {ry} {height} {out} c {at} e =
       within = omega arith;
       passed = λ a m. absurd (let no′ : ⊥ = omega arith in no′);
       standing = standing-none ry;
-      owned = omega (arith, c .places 0);
+      owned = omega (arith, c .indices 0);
       alike = refl;
       gained = sym (sum-none at (gainIn line px py ry) (λ i m. gainIn-before line px py ry i (omega arith)));
       fallen = λ j.
@@ -158,7 +158,7 @@ module _ {line : List ℕ} {px py rx ry height : ℕ} {out : List ℕ} {k at are
 
     overBy-here : (t j : ℕ) → overBy t line (i ∷ j ∷ []) ≡ lowBy t (take k line) j
     unfolding overBy lowBy
-    overBy-here t j = column-tally (λ w. eqb (placeOf w) t) line k i j reach miss
+    overBy-here t j = column-tally (λ w. eqb (indexOf w) t) line k i j reach miss
 
     right-of : px ≤ i
     right-of = omega (arith, h .from, h .within)
@@ -191,7 +191,7 @@ module _ {line : List ℕ} {px py rx ry height : ℕ} {out : List ℕ} {k at are
       sum-strip (sharedIn t line px py ry) 0 at to (λ i l m. sharedIn-rows i l m t ∙ shared-rows-other (h .standing) py t n)
       ∙ rw (mul-zero (to - at)) (add-zero (sum at (sharedIn t line px py ry)))
 
-  -- No more falls than over all columns, so the owner's part is large enough.
+  -- What falls here is part of what falls over all columns, so the owner's contribution is large enough.
   pub swept-settling : Crossing line px py rx ry height out → Settling column at to py height left
   unfolding sharedWith count cells sharedIn
   swept-settling c =
@@ -254,14 +254,14 @@ module _ {line : List ℕ} {px py rx ry height : ℕ} {out : List ℕ} {k at are
         go t (no n) = fallen-other t n
 
 -- One entry passed.
-swept-passed : {line : List ℕ} {px py rx ry height : ℕ} {out : List ℕ} {k at area : ℕ} {column : Column} {left : List ℕ} → Crossing line px py rx ry height out → Swept line px py rx ry height out k at area column left → k < length line → min (xOf (getD line k 0)) rx ≤ at → Swept line px py rx ry height out (k + 1) at area (columnWith column (yOf (getD line k 0)) (placeOf (getD line k 0))) left
+swept-passed : {line : List ℕ} {px py rx ry height : ℕ} {out : List ℕ} {k at area : ℕ} {column : Column} {left : List ℕ} → Crossing line px py rx ry height out → Swept line px py rx ry height out k at area column left → k < length line → min (xOf (getD line k 0)) rx ≤ at → Swept line px py rx ry height out (k + 1) at area (columnWith column (yOf (getD line k 0)) (indexOf (getD line k 0))) left
 swept-passed {line} {px} {py} {rx} {ry} {height} {out} {k} {at} {area} {column} {left} c h l m =
     record {
       from = h .from;
       within = h .within;
       passed = below-more (λ a. min (xOf (getD line a 0)) rx ≤ at) k (h .passed) m;
       standing = rw (add-one k, take-suc line k 0 l) (standing-more (h .standing) (getD line k 0));
-      owned = columnWith-owned column (yOf (getD line k 0)) (placeOf (getD line k 0)) (length out) (h .owned) (c .places k);
+      owned = columnWith-owned column (yOf (getD line k 0)) (indexOf (getD line k 0)) (length out) (h .owned) (c .indices k);
       alike = h .alike;
       gained = h .gained;
       fallen = h .fallen;
@@ -280,7 +280,7 @@ module _ {line : List ℕ} {px py rx ry height : ℕ} {out : List ℕ} {k at are
         let most : low (take k line) j ≤ over line (i ∷ j ∷ []) = column-least (λ w. true) line k i j reach-stop in
         omega arith
 
-    -- a row that p dominates, with the rest of a test that fails there
+    -- a row counts nothing where the rest of its test fails
     row-stop : (j : ℕ) (b : Bool) → (py ≤ j → b ≡ false) → holds (both (dominates (px ∷ py ∷ []) (i ∷ j ∷ [])) b) ≡ 0
     unfolding dominates both holds
     row-stop j b n = go (leb px i) (leb py j) (compared py j)
@@ -357,7 +357,7 @@ module _ {line : List ℕ} {px py rx ry height : ℕ} {out : List ℕ} {k at are
       pub turn-settled : Swept line px py rx ry height out k (max at next) (area + gained) column left′
       turn-settled = swept-settled h next within-next ahead-next s c
 
-      pub swept-more : {at′ y place : ℕ} {column′ : Column} → at′ ≡ max at next → y ≡ yOf (getD line k 0) → place ≡ placeOf (getD line k 0) → column′ ≡ columnWith column y place → k < length line → Swept line px py rx ry height out (k + 1) at′ (area + gained) column′ left′
+      pub swept-more : {at′ y index : ℕ} {column′ : Column} → at′ ≡ max at next → y ≡ yOf (getD line k 0) → index ≡ indexOf (getD line k 0) → column′ ≡ columnWith column y index → k < length line → Swept line px py rx ry height out (k + 1) at′ (area + gained) column′ left′
       swept-more e f g d l = rw (e, d, f, g) (swept-passed c turn-settled l (omega arith))
 
   -- The end: past the last entry, the strip up to the reference.

@@ -11,26 +11,26 @@ use lib.Dec.{leb, eqb, eqb·suc-suc}
 use lib.ListN.{length, getD, length-append, List·getD-append}
 use lib.Seq.{getD-append-seam}
 use borrow.Author.Tests.{eq-eqb, ne-eqb}
-use Rattle.hypervolume.specs.Cells.{both, holds, dominates, count}
+use Rattle.hypervolume.specs.Cells.{both, holds, dominates}
 use Rattle.hypervolume.specs.Counts.{cover, total, contribution, gain, joint}
 use Rattle.hypervolume.proofs.Tests.{both-comm}
 use Rattle.hypervolume.proofs.Dominance.{first, rest, cover-append, among-at}
 use Rattle.hypervolume.proofs.Counting.{count-ext, count-none, SameCover, total-same, total-more, contribution-same, contribution-new, contribution-more}
 use Rattle.hypervolume.proofs.Axes.{FirstAtMost, gain-layers, joint-layers}
 use Rattle.sweep.specs.Points.{Ascending}
-use Rattle.sweep.specs.Line.{entryOf, xOf, yOf, placeOf, spot, tally, over, overBy, gainOver, sharedWith, insertAt}
+use Rattle.sweep.specs.Line.{entryOf, xOf, yOf, indexOf, spot, tally, over, overBy, gainOver, sharedWith, insertAt}
 use Rattle.sweep.proofs.Tallies.{tally-insert}
 use Rattle.sweep.proofs.Placings.{insert-length, insert-all}
 
--- The entries of the line are the points T.
+-- The entries of the line are the trials, seen along z.
 unfoldable pub Holds : List ℕ → List (List ℕ) → Type 0
 Holds line trials = (c : List ℕ) → over line c ≡ cover trials c
 
--- The entries at place j are the point t.
+-- The entry of index j is the trial t.
 unfoldable pub HoldsAt : ℕ → List ℕ → List ℕ → Type 0
 HoldsAt j line t = (c : List ℕ) → overBy j line c ≡ holds (dominates t c)
 
--- No entry is at place j.
+-- No entry has the index j.
 unfoldable pub Lacks : ℕ → List ℕ → Type 0
 Lacks j line = (c : List ℕ) → overBy j line c ≡ 0
 
@@ -58,23 +58,23 @@ sharedWith-none r line p j o =
     closed a b = rw (both-comm b false) (both-comm a false)
 
 -- An entry gives back what was put in.
-module _ (x y place : ℕ) (y-small : y ≤ 1048576) (place-small : place < 512) where
-  pub spot-entry : spot (entryOf x y place) ≡ x ∷ y ∷ []
+module _ (x y index : ℕ) (y-small : y ≤ 1048576) (index-small : index < 512) where
+  pub spot-entry : spot (entryOf x y index) ≡ x ∷ y ∷ []
   spot-entry =
-      let first′ : xOf (entryOf x y place) ≡ x = omega arith in
-      let second′ : yOf (entryOf x y place) ≡ y = omega arith in
+      let first′ : xOf (entryOf x y index) ≡ x = omega arith in
+      let second′ : yOf (entryOf x y index) ≡ y = omega arith in
       rw (first′, second′)
 
-  pub place-entry : placeOf (entryOf x y place) ≡ place
-  place-entry = omega arith
+  pub index-entry : indexOf (entryOf x y index) ≡ index
+  index-entry = omega arith
 
--- The line holds the points passed, z first, each at its place in the list.
+-- The line holds the points passed, z first, each with its index in the list.
 pub record Lined (trials : List (List ℕ)) (line : List ℕ) : Type 0 where
   pub rising : Ascending line
   pub all : Holds line (map rest trials)
   pub each : (j : ℕ) → j < length trials → HoldsAt j line (rest (getD trials j []))
   pub others : (j : ℕ) → length trials ≤ j → Lacks j line
-  pub places : (k : ℕ) → k < length line → placeOf (getD line k 0) < length trials
+  pub indices : (k : ℕ) → k < length line → indexOf (getD line k 0) < length trials
 
 pub lined-none : Lined [] []
 unfolding Holds Lacks over overBy tally cover
@@ -84,7 +84,7 @@ lined-none =
       all = λ c. refl;
       each = λ j l. absurd (let no′ : ⊥ = omega arith in no′);
       others = λ j l c. refl;
-      places = λ k l. absurd (let no′ : ⊥ = omega arith in no′);
+      indices = λ k l. absurd (let no′ : ⊥ = omega arith in no′);
     }
 
 -- One more point, put in the line at `at`.
@@ -104,9 +104,9 @@ module _ {trials : List (List ℕ)} {line : List ℕ} (h : Lined trials line) (z
   overBy-more : (j : ℕ) (c : List ℕ) → overBy j (insertAt at w line) c ≡ overBy j line c + holds (both (eqb (length trials) j) (dominates (x ∷ y ∷ []) c))
   unfolding overBy w
   overBy-more j c =
-      tally-insert (λ v. both (eqb (placeOf v) j) (dominates (spot v) c)) at w line
-      ∙ rw (spot-entry x y (length trials) y-small few, place-entry x y (length trials) y-small few)
-      (add-comm (holds (both (eqb (length trials) j) (dominates (x ∷ y ∷ []) c))) (tally (λ v. both (eqb (placeOf v) j) (dominates (spot v) c)) line))
+      tally-insert (λ v. both (eqb (indexOf v) j) (dominates (spot v) c)) at w line
+      ∙ rw (spot-entry x y (length trials) y-small few, index-entry x y (length trials) y-small few)
+      (add-comm (holds (both (eqb (length trials) j) (dominates (x ∷ y ∷ []) c))) (tally (λ v. both (eqb (indexOf v) j) (dominates (spot v) c)) line))
 
   overBy-other : (j : ℕ) (c : List ℕ) → (length trials ≡ j → ⊥) → overBy j (insertAt at w line) c ≡ overBy j line c
   unfolding both holds
@@ -137,10 +137,10 @@ module _ {trials : List (List ℕ)} {line : List ℕ} (h : Lined trials line) (z
         others = λ j l c.
             let more : length trials < j = omega (arith, length-append trials (p ∷ [])) in
             overBy-other j c (λ e. omega arith) ∙ h .others j (omega arith) c;
-        places = λ k l.
-            insert-all at w line fits (λ v. placeOf v < length (trials ++ (p ∷ [])))
-            (rw (place-entry x y (length trials) y-small few) (omega (arith, length-append trials (p ∷ []))))
-            (λ a m. omega (arith, h .places a m, length-append trials (p ∷ [])))
+        indices = λ k l.
+            insert-all at w line fits (λ v. indexOf v < length (trials ++ (p ∷ [])))
+            (rw (index-entry x y (length trials) y-small few) (omega (arith, length-append trials (p ∷ []))))
+            (λ a m. omega (arith, h .indices a m, length-append trials (p ∷ [])))
             k
             (omega (arith, insert-length at w line fits));
       }

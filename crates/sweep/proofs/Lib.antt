@@ -1,4 +1,5 @@
--- Laws of the sweep.
+-- Laws of the sweep. Lists and Placings: ascending lists and the line. Tallies, Columns and Crossings: the pass along
+-- the line. Coordinates, Layers and Sweeps: from the pass to the counts of `hypervolume`. Updates: one more point.
 pub mod Lists
 pub mod Placings
 pub mod Tallies

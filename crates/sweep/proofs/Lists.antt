@@ -1,6 +1,6 @@
 -- Lists of numbers: ascending ones, and ones whose first numbers have been written anew.
 use Prim.Native.Nat.{ℕ, zero, suc, _+_, _-_, _≤_, _<_}
-use mathlib.Core.Path.{_≡_, refl, sym, ap, _∙_}
+use mathlib.Core.Path.{_≡_, refl, sym, _∙_}
 use mathlib.Core.List.{List, [], _∷_, _++_, map}
 use native.Mathlib.Decide.{decLe}
 use native.Mathlib.Omega.{arith}

@@ -1,15 +1,13 @@
 -- Placing one more entry in the line: the larger entries move up by one place, from the last on.
-use Prim.Native.Nat.{ℕ, zero, suc, _+_, _-_, _≤_, _<_, min}
-use mathlib.Core.Path.{_≡_, refl, sym, ap, _∙_}
-use mathlib.Core.List.{List, [], _∷_, _++_}
+use Prim.Native.Nat.{ℕ, zero, suc, _+_, _-_, _≤_, _<_}
+use mathlib.Core.Path.{_≡_, refl, sym, _∙_}
+use mathlib.Core.List.{List, _∷_}
 use native.Mathlib.Decide.{decLe, ℕ-discrete}
-use native.Mathlib.Numerals.{add-one}
 use native.Mathlib.Omega.{arith}
 use lib.ListN.{length, take, drop, getD, set, length-append, length-take, length-drop, length-set, List·getD-append}
 use lib.Seq.{length-take-le, getD-take, getD-drop, getD-at, getD-append-add, getD-set-same, getD-set-other, ext-getD}
 use Rattle.sweep.specs.Points.{Ascending}
 use Rattle.sweep.specs.Line.{insertAt, Placing, Placed}
-use Rattle.sweep.proofs.Lists.{ascending-at}
 
 -- What stands where in a list with one more entry.
 module _ (at w : ℕ) (l : List ℕ) (fits : at ≤ length l) where

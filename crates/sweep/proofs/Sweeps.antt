@@ -1,20 +1,20 @@
 -- The sweep: after i points, the total of these and the contribution of each among them.
-use Prim.Native.Nat.{ℕ, zero, suc, _+_, _-_, _*_, _^_, _≤_, _<_, min}
-use mathlib.Core.Path.{_≡_, refl, sym, ap, _∙_}
-use mathlib.Core.List.{List, [], _∷_, _++_, map}
+use Prim.Native.Nat.{ℕ, suc, _+_, _-_, _*_, _^_, _≤_, _<_}
+use mathlib.Core.Path.{_≡_, refl, sym, _∙_}
+use mathlib.Core.List.{List, [], _∷_, _++_}
 use native.Mathlib.Nat.{mul-one, mul-zero}
 use native.Mathlib.Decide.{decLe}
 use native.Mathlib.Numerals.{add-one}
 use native.Mathlib.Omega.{arith}
-use lib.ListN.{length, take, drop, getD, set, length-set, length-take, length-drop, length-append, length-map, List·getD-eq-default, List·getD-append}
-use lib.Seq.{take-suc, take-all, getD-take, getD-drop, getD-append-add, getD-set-same, getD-set-other, length-take-le, ext-getD}
+use lib.ListN.{length, take, drop, getD, set, length-set, length-take, length-map, List·getD-eq-default}
+use lib.Seq.{take-suc, take-all, getD-take, getD-set-same, getD-set-other, length-take-le}
 use Rattle.hypervolume.specs.Cells.{box}
 use Rattle.hypervolume.specs.Counts.{total, contribution, contributions}
 use Rattle.hypervolume.proofs.Dominance.{first}
 use Rattle.hypervolume.proofs.Counting.{total-none, total-le-box}
 use Rattle.hypervolume.proofs.Axes.{FirstAtMost}
 use Rattle.sweep.specs.Points.{points, Ascending, Ready}
-use Rattle.sweep.specs.Line.{entryOf, placeOf, gainOver, sharedWith, insertAt, Placing, Placed}
+use Rattle.sweep.specs.Line.{entryOf, indexOf, sharedWith, insertAt, Placing, Placed}
 use Rattle.sweep.specs.Strips.{Crossing, Crossed}
 use Rattle.sweep.proofs.Lists.{ascending-at, getD-mapped, front-then}
 use Rattle.sweep.proofs.Crossings.{three-fit}
@@ -107,11 +107,11 @@ module _ {xs ys zs out : List ℕ} {rx ry rz i volume : ℕ} {line left : List �
       sharedWith-none (rx ∷ ry ∷ []) (take i line) (getD xs i 0 ∷ getD ys i 0 ∷ []) j
       (h .lined .others j (omega (arith, passed-many)))
 
-  line-places : (k : ℕ) → Dec (k < i) → placeOf (getD (take i line) k 0) < length left
+  line-indices : (k : ℕ) → Dec (k < i) → indexOf (getD (take i line) k 0) < length left
   unfolding passed
-  line-places k (yes a) =
-      omega (arith, h .lined .places k (omega (arith, length-take i line)), passed-many, ready, h .alike)
-  line-places k (no a) =
+  line-indices k (yes a) =
+      omega (arith, h .lined .indices k (omega (arith, length-take i line)), passed-many, ready, h .alike)
+  line-indices k (no a) =
       rw (List·getD-eq-default (take i line) 0 {n = k} (omega (arith, length-take i line)))
       (omega (arith, ready, h .alike))
 
@@ -123,7 +123,7 @@ module _ {xs ys zs out : List ℕ} {rx ry rz i volume : ℕ} {line left : List �
     progress-crossing =
         record {
           rising = h .lined .rising;
-          places = λ k. line-places k (decLe (suc k) i);
+          indices = λ k. line-indices k (decLe (suc k) i);
           rx-small = ready .reference-small 0;
           ry-small = ready .reference-small 1;
           height-small = omega (arith, ready .reference-small 2);

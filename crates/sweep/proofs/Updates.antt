@@ -1,14 +1,13 @@
 -- One more point u: the trials' corners with u are counted in their stead (laws 3 and 4).
-use Prim.Native.Nat.{ℕ, zero, suc, _+_, _-_, _≤_, _<_, max}
+use Prim.Native.Nat.{ℕ, suc, _+_, _-_, _≤_, _<_, max}
 use mathlib.Core.Path.{_≡_, refl, sym, ap, _∙_, fun-ext}
 use mathlib.Core.List.{List, [], _∷_, _++_, map, map-map}
 use native.Mathlib.Decide.{decLe}
-use native.Mathlib.Numerals.{add-one}
 use native.Mathlib.Omega.{arith}
 use lib.ListN.{length, take, drop, getD, set, length-set, length-map, List·getD-eq-default}
 use lib.Seq.{take-at, getD-set-same, getD-set-other}
 use Rattle.hypervolume.specs.Cells.{join, edges}
-use Rattle.hypervolume.specs.Counts.{total, contribution, gain, joint, contributions, joints}
+use Rattle.hypervolume.specs.Counts.{total, contribution, gain, contributions, joints}
 use Rattle.hypervolume.proofs.Counting.{joint-corner, gain-edges}
 use Rattle.sweep.specs.Points.{points, Small, Ascending, Ready}
 use Rattle.sweep.proofs.Lists.{getD-mapped, front-then}

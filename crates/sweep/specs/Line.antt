@@ -1,16 +1,16 @@
 -- The line: the points passed by the sweep, seen along z, in ascending order of x. Each is one word, an entry,
--- that holds x, y and the point's place in the list.
-use Prim.Native.Nat.{ℕ, zero, suc, _+_, _*_, _/_, _%_, _≤_, _<_}
+-- that holds x, y and the point's index in the list.
+use Prim.Native.Nat.{ℕ, _+_, _*_, _/_, _%_, _≤_, _<_}
 use mathlib.Core.Path.{_≡_}
-use mathlib.Core.Bool.{Bool, true, false}
+use mathlib.Core.Bool.{Bool}
 use mathlib.Core.List.{List, [], _∷_, _++_}
 use lib.Dec.{leb, eqb}
-use lib.ListN.{length, take, drop, getD}
+use lib.ListN.{length, take, drop}
 use Rattle.hypervolume.specs.Cells.{both, holds, dominates, count}
 use Rattle.sweep.specs.Points.{Ascending}
 
 abbrev pub entryOf : ℕ → ℕ → ℕ → ℕ
-entryOf x y place = (x * 2097152 + y) * 1024 + place
+entryOf x y index = (x * 2097152 + y) * 1024 + index
 
 abbrev pub xOf : ℕ → ℕ
 xOf w = w / 2147483648
@@ -18,8 +18,8 @@ xOf w = w / 2147483648
 abbrev pub yOf : ℕ → ℕ
 yOf w = w / 1024 % 2097152
 
-abbrev pub placeOf : ℕ → ℕ
-placeOf w = w % 1024
+abbrev pub indexOf : ℕ → ℕ
+indexOf w = w % 1024
 
 -- The point of an entry, seen along z.
 abbrev pub spot : ℕ → List ℕ
@@ -30,18 +30,18 @@ unfoldable pub tally : (ℕ → Bool) → List ℕ → ℕ
 tally test [] = 0
 tally test (w ∷ line) = holds (test w) + tally test line
 
--- How many entries dominate a cell of the layer, and how many of those are of the point at place j.
+-- How many entries dominate a cell of the layer, and how many of those are of the point of index j.
 unfoldable pub over : List ℕ → List ℕ → ℕ
 over line c = tally (λ w. dominates (spot w) c) line
 
 unfoldable pub overBy : ℕ → List ℕ → List ℕ → ℕ
-overBy j line c = tally (λ w. both (eqb (placeOf w) j) (dominates (spot w) c)) line
+overBy j line c = tally (λ w. both (eqb (indexOf w) j) (dominates (spot w) c)) line
 
 -- The cells of the layer that p dominates and no entry does.
 unfoldable pub gainOver : List ℕ → List ℕ → List ℕ → ℕ
 gainOver r line p = count r (λ c. both (dominates p c) (eqb (over line c) 0))
 
--- The cells of the layer that p dominates and one entry does, that of the point at place j.
+-- The cells of the layer that p dominates and one entry does, that of the point of index j.
 unfoldable pub sharedWith : List ℕ → List ℕ → List ℕ → ℕ → ℕ
 sharedWith r line p j = count r (λ c. both (dominates p c) (both (eqb (over line c) 1) (leb 1 (overBy j line c))))
 

@@ -7,13 +7,13 @@ use lib.Dec.{ltb}
 use lib.ListN.{length, getD, set}
 use Rattle.sweep.specs.declared.column.Column.{Column}
 use Rattle.sweep.specs.Points.{Ascending}
-use Rattle.sweep.specs.Line.{placeOf, gainOver, sharedWith}
+use Rattle.sweep.specs.Line.{indexOf, gainOver, sharedWith}
 
 abbrev pub pickColumn : Bool → Column → Column → Column
 pickColumn true a b = a
 pickColumn false a b = b
 
--- The column with one more point passed, of height y and place `owner`.
+-- The column with one more point passed, of the index `owner`, at y.
 unfoldable pub columnWith : Column → ℕ → ℕ → Column
 columnWith c y owner =
     pickColumn (ltb y (c .least)) (record { least = y; owner = owner; second = c .least })
@@ -42,7 +42,7 @@ pub record Settled (column : Column) (from to py height : ℕ) (out left : List 
 -- The whole pass: what it asks, and what it answers and leaves. `height` is the number of layers.
 pub record Crossing (line : List ℕ) (px py rx ry height : ℕ) (out : List ℕ) : Type 0 where
   pub rising : Ascending line
-  pub places : (k : ℕ) → placeOf (getD line k 0) < length out
+  pub indices : (k : ℕ) → indexOf (getD line k 0) < length out
   pub rx-small : rx ≤ 1048576
   pub ry-small : ry ≤ 1048576
   pub height-small : height ≤ 1048576

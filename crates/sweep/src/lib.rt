@@ -1,5 +1,5 @@
-// The one counting algorithm of the archive: total and contributions of a list of points, and the gain of one more
-// point with its joint contributions.
+// The one counting algorithm of the archive: a sweep over the points in ascending z. It counts the total and every
+// contribution; over the corners with one more point it counts the gain of that point and every joint contribution.
 use hypervolume::Point;
 ghost use mathlib.Core.Path.{_≡_};
 ghost use mathlib.Core.List.{_++_, map};
@@ -10,9 +10,12 @@ ghost use Rattle.sweep.specs.Points.{points, Small, Ready};
 
 mod column;
 mod line;
+mod number;
 mod strips;
 
-// The total of the points, and in `out` the contribution of each.
+// The total of the points, and in `out` the contribution of each. After i points, `volume` and `out` are those of these
+// points alone. No earlier point has a larger z, so in each layer that the next point reaches it meets the same
+// picture, seen along z: one area to add and one area to take from each earlier point, `height` cells deep.
 pub fn sweep(xs: &[u64], ys: &[u64], zs: &[u64], reference: Point, out: &mut [u64]) -> u64
     requires { ⌜ Ready (now xs) (now ys) (now zs) (reference .at) (now out) ⌝ }
     ensures total { λ r. ⌜ r ≡ total (reference .at) (points (now (xs .entry)) (now (ys .entry)) (now (zs .entry))) ⌝ }
@@ -37,19 +40,20 @@ pub fn sweep(xs: &[u64], ys: &[u64], zs: &[u64], reference: Point, out: &mut [u6
     volume
 }
 
-// The coordinates of the upper corners of a point and the points of a list, on one axis.
+// The coordinates, on one axis, of the upper corners of one point with the points of a list.
 fn corners(src: &[u64], coordinate: u64, dst: &mut [u64])
     requires { ⌜ length (now src) ≤ length (now dst) ⌝ }
     ensures { λ _. ⌜ now (dst .exit) ≡ map (λ x. max coordinate x) (now (src .entry)) ++ drop (length (now (src .entry))) (now (dst .entry)) ⌝ }
 {
     let mut i: usize = 0;
     while i < src.len() {
-        dst[i] = column::larger(coordinate, src[i]);
+        dst[i] = number::larger(coordinate, src[i]);
         i = i + 1;
     }
 }
 
-// The gain of u over the points, and in `out` its joint contribution with each.
+// The gain of u over the points, and in `out` its joint contribution with each. A trial shares with u just what its
+// upper corner with u dominates; of the edge product of u the gain is what no corner dominates.
 pub fn update(
     xs: &[u64],
     ys: &[u64],

@@ -1,13 +1,14 @@
-// The points passed, in ascending x: each is one word that holds x, y and the point's place in the list.
+// The line: the points passed, in ascending x. Each is one word that holds x, y and the point's index in the list, 21
+// bits for a coordinate and 10 for the index, so that words in ascending order are points in ascending x.
 ghost use mathlib.Core.Path.{_≡_};
 ghost use Prim.Native.Nat.{_≤_, _<_};
-ghost use Rattle.sweep.specs.Line.{entryOf, xOf, yOf, placeOf, Placing, Placed};
+ghost use Rattle.sweep.specs.Line.{entryOf, xOf, yOf, indexOf, Placing, Placed};
 
-pub fn entry(x: u64, y: u64, place: usize) -> u64
-    requires { ⌜ (x ≤ 1048576) × (y ≤ 1048576) × (place < 512) ⌝ }
-    ensures { λ r. ⌜ r ≡ entryOf x y place ⌝ }
+pub fn entry(x: u64, y: u64, index: usize) -> u64
+    requires { ⌜ (x ≤ 1048576) × (y ≤ 1048576) × (index < 512) ⌝ }
+    ensures { λ r. ⌜ r ≡ entryOf x y index ⌝ }
 {
-    (x * 2097152 + y) * 1024 + place as u64
+    (x * 2097152 + y) * 1024 + index as u64
 }
 
 pub fn x_of(entry: u64) -> u64
@@ -22,8 +23,8 @@ pub fn y_of(entry: u64) -> u64
     entry / 1024 % 2097152
 }
 
-pub fn place_of(entry: u64) -> usize
-    ensures { λ r. ⌜ r ≡ placeOf entry ⌝ }
+pub fn index_of(entry: u64) -> usize
+    ensures { λ r. ⌜ r ≡ indexOf entry ⌝ }
 {
     (entry % 1024) as usize
 }

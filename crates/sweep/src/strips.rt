@@ -1,15 +1,16 @@
-// One pass over the points passed, in ascending x, for the next point p.
+// One pass along the line, for the next point p. Between neighbouring x's the columns of cells are alike, so each such
+// strip is settled by one product.
 ghost use Rattle.sweep.specs.Strips.{Settling, Settled, Crossing, Crossed};
 use crate::column::Column;
-use crate::column::larger;
-use crate::column::less;
-use crate::column::smaller;
-use crate::line::place_of;
+use crate::line::index_of;
 use crate::line::x_of;
 use crate::line::y_of;
+use crate::number::larger;
+use crate::number::less;
+use crate::number::smaller;
 
-// The columns from `from` up to `to`, which are alike: the area that p gains there; and the owner's part of `out` falls by
-// what p shares there with it alone, `height` cells deep.
+// Settles the columns from `from` up to `to`: answers the area that p alone dominates there, and takes from the owner's
+// contribution what p and the owner alone dominate there, `height` cells deep.
 fn settle(column: Column, from: u64, to: u64, py: u64, height: u64, out: &mut [u64]) -> u64
     requires { ⌜ Settling column from to py height (now out) ⌝ }
     ensures { λ r. ⌜ Settled column from to py height (now (out .entry)) (now (out .exit)) r ⌝ }
@@ -24,7 +25,8 @@ fn settle(column: Column, from: u64, to: u64, py: u64, height: u64, out: &mut [u
     width * less(column.least, py)
 }
 
-// The area that p alone dominates in its layer; each point's part of `out` falls by what p shares with it alone.
+// The area that p alone dominates in a layer; from each contribution in `out` goes what p and that point alone dominate.
+// The pass ends early where two points passed dominate all that is left of p.
 pub fn strips(line: &[u64], px: u64, py: u64, rx: u64, ry: u64, height: u64, out: &mut [u64]) -> u64
     requires { ⌜ Crossing (now line) px py rx ry height (now out) ⌝ }
     ensures { λ r. ⌜ Crossed (now (line .entry)) px py rx ry height (now (out .entry)) (now (out .exit)) r ⌝ }
@@ -45,7 +47,7 @@ pub fn strips(line: &[u64], px: u64, py: u64, rx: u64, ry: u64, height: u64, out
         let next = smaller(x_of(entry), rx);
         area = area + settle(column, at, next, py, height, out);
         at = larger(at, next);
-        column = column.with(y_of(entry), place_of(entry));
+        column = column.with(y_of(entry), index_of(entry));
         k = k + 1;
     }
     area + settle(column, at, rx, py, height, out)

@@ -3,26 +3,26 @@ use Prim.Native.Nat.{ℕ, zero, suc, _+_, _-_, _*_, _≤_, _<_}
 use mathlib.Core.Path.{_≡_, refl, sym, ap, _∙_}
 use mathlib.Core.Bool.{Bool, true, false, not}
 use mathlib.Core.List.{List, [], _∷_, _++_, append-assoc}
-use native.Mathlib.Omega.{arith}
 use native.Mathlib.Nat.{le-refl}
 use native.Mathlib.Numerals.{add-one}
+use native.Mathlib.Omega.{arith}
 use lib.Bits.{bitOr, or-zero-l, or-add-and, and-le-l, and-le-r}
 use lib.Dec.{leb, ltb, eqb}
+use lib.ListN.{length, getD, take, drop}
 use lib.Seq.{drop-cons}
 use borrow.Author.Count.{below-more}
 use borrow.Author.Tests.{leb-true, lt-ltb, le-ltb, eq-eqb, ne-eqb, not-true, not-false}
-use lib.ListN.{length, getD, take, drop}
 use Rattle.hypervolume.specs.Cells.{both, box}
+use Rattle.hypervolume.proofs.Tests.{Compared, below, above, compared, Equated, same, differs, equated, both-true, both-intro, both-comm, both-assoc}
 use Rattle.words.specs.Archive.{Trial, Row, Shape, reference, trials, before}
 use Rattle.words.specs.Layout.{word, read-rows, read-shape, read, extent}
-use Rattle.words.specs.Format.{guard, shape-allowed, header-allowed, row-allowed, rows-allowed, ordered, held, distinct, zeros, unused, records-allowed, archive-rows}
-use Rattle.words.specs.Places.{row-at, rows-before, follows, stands, sound-rows, AtPlace, Headed, Found}
+use Rattle.words.specs.Format.{guard, shape-allowed, header-allowed, row-allowed, rows-allowed, ordered, distinct, zeros, unused, records-allowed, archive-rows}
+use Rattle.words.specs.Places.{row-at, rows-before, follows, repeated, stands, sound-rows, AtPlace, Headed, Found}
 use Rattle.words.specs.Table.{marked, Marking}
 use Rattle.words.proofs.Reading.{length-read-rows, read-rows-append}
-use Rattle.hypervolume.proofs.Tests.{Compared, below, above, compared, Equated, same, differs, equated, both-true, both-intro, both-comm, both-assoc}
+use Rattle.words.proofs.Passed.{shape-bounds}
 use Rattle.words.proofs.Lists.{trials-append, rows-allowed-append, ordered-snoc, distinct-snoc, rows-allowed-part, ordered-part, distinct-part, held-none}
 use Rattle.words.proofs.Places.{number-at, rows-before-at, rows-before-more}
-use Rattle.words.proofs.Passed.{shape-bounds}
 
 -- The first of two tests decides, or leaves it to the second.
 pub first-failed : (b q s : Bool) → both b q ≡ s → not b ≡ true → false ≡ s
@@ -117,11 +117,11 @@ sound-rows-more w i =
     let rows : rows-allowed s (rows-before w (i + 1)) ≡ both (rows-allowed s (rows-before w i)) (both (row-allowed s (row-at w i)) true) =
     ap (rows-allowed s) (rows-before-more w i) ∙ rows-allowed-append s (rows-before w i) (row-at w i ∷ []) in
     let apart : distinct (trials (rows-before w (i + 1)))
-    ≡ both (distinct (trials (rows-before w i))) (not (held (row-at w i .trial .number) (trials (rows-before w i)))) =
+    ≡ both (distinct (trials (rows-before w i))) (not (repeated w i)) =
     ap distinct (trials-more w i) ∙ distinct-snoc (trials (rows-before w i)) (row-at w i .trial) in
     rw (rows, ordered-more w i, apart)
     (shuffle (rows-allowed s (rows-before w i)) (ordered (trials (rows-before w i))) (distinct (trials (rows-before w i)))
-    (row-allowed s (row-at w i)) (follows w i) (not (held (row-at w i .trial .number) (trials (rows-before w i)))))
+    (row-allowed s (row-at w i)) (follows w i) (not (repeated w i)))
   where
     shuffle : (a o d r f h : Bool) → both (both a (both r true)) (both (both o f) (both d h)) ≡ both (both a (both o d)) (both r (both f h))
     shuffle false o d r f h = refl
@@ -151,19 +151,19 @@ sound-rows-part s a b f = go (sound-rows s (a ++ b)) refl
 -- Row 3 at a place, as the code takes it: the record and its order first, its number last.
 pub stands-test : (w : List ℕ) (i : ℕ) (s : Shape) (r : Row) (a f b : Bool) → s ≡ read-shape w → r ≡ row-at w i
     → a ≡ row-allowed s r → f ≡ follows w i → b ≡ both a f
-    → both b (not (held (row-at w i .trial .number) (trials (rows-before w i)))) ≡ stands w i
+    → both b (not (repeated w i)) ≡ stands w i
 unfolding stands
 stands-test w i s r a f b shape row allowed order test =
     rw (test, allowed, order, shape, row)
-    (both-assoc (row-allowed (read-shape w) (row-at w i)) (follows w i) (not (held (row-at w i .trial .number) (trials (rows-before w i)))))
+    (both-assoc (row-allowed (read-shape w) (row-at w i)) (follows w i) (not (repeated w i)))
 
 pub stands-unmet : (b h s : Bool) → both b (not h) ≡ s → not b ≡ false → h ≡ false → true ≡ s
 stands-unmet b h s e n clear = ap not (sym clear) ∙ first-passed b (not h) s e n
 
-pub stands-searched : (w : List ℕ) (i place : ℕ) (r : Row) (b s : Bool) → both b (not (held (row-at w i .trial .number) (trials (rows-before w i)))) ≡ s
+pub stands-searched : (w : List ℕ) (i place : ℕ) (r : Row) (b s : Bool) → both b (not (repeated w i)) ≡ s
     → not b ≡ false → r ≡ row-at w i → Found w i (r .trial .number) place → leb i place ≡ s
 stands-searched w i place r b s e n row f =
-    let searched : held (row-at w i .trial .number) (trials (rows-before w i)) ≡ ltb place i = rw row at (f .holds) in
+    let searched : repeated w i ≡ ltb place i = rw row at (f .holds) in
     none (leb i place) (compared i place) ∙ ap not (sym searched) ∙ first-passed _ _ s e n
   where
     none : (t : Bool) → Compared i place t → t ≡ not (ltb place i)
@@ -223,7 +223,7 @@ standing-more w cells table after i t st l test passed m sized =
 
 -- A record whose bit is clear has no earlier one of its number.
 unmet : (w : List ℕ) (cells : ℕ) (table : List ℕ) (i : ℕ) → Standing w cells table i → marked table (word w (8 + 5 * i)) ≡ false
-    → held (row-at w i .trial .number) (trials (rows-before w i)) ≡ false
+    → repeated w i ≡ false
 unmet w cells table i st clear =
     held-none (row-at w i .trial .number) (rows-before w i) (row-at w i)
     (λ k k<i. absent k (omega (arith, length-read-rows i (drop 8 w))))

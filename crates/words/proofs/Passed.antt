@@ -4,15 +4,15 @@ use Prim.Native.Nat.{ℕ, zero, suc, _+_, _-_, _*_, _^_, _≤_, _<_}
 use mathlib.Core.Path.{_≡_, refl, sym, ap, _∙_, subst}
 use mathlib.Core.Bool.{Bool, true, false, not}
 use mathlib.Core.List.{List, [], _∷_, _++_, append-assoc}
-use native.Mathlib.Nat.{le-refl, le-trans, mul-le-mul}
+use native.Mathlib.Nat.{le-refl, le-trans, lt-of-le-of-lt, mul-le-mul, mul-one}
 use native.Mathlib.Omega.{arith}
-use lib.Dec.{leb, ltb, eqb, lit≤}
-use lib.ListN.{length, getD, take, drop, replicate, length-append, length-take, length-drop, length-replicate, take-append-drop}
-use lib.Seq.{drop-at, take-at, drop-drop, take-add, length-take-le}
+use lib.Dec.{leb, ltb, lit<, lit≤}
+use lib.ListN.{length, getD, take, drop, replicate, length-append, length-drop, length-replicate, take-append-drop}
+use lib.Seq.{drop-at, take-at, drop-drop, length-take-le}
 use borrow.Author.Tests.{leb-true, ltb-false, eqb-true, le-leb, le-ltb, eq-eqb, not-false}
 use Rattle.hypervolume.specs.Cells.{both, box}
 use Rattle.hypervolume.proofs.Tests.{both-true, both-intro}
-use Rattle.words.specs.Archive.{Trial, Row, Shape, Archive, reference, trials}
+use Rattle.words.specs.Archive.{Row, Shape, Archive, reference, trials}
 use Rattle.words.specs.Layout.{header, records, extent, layout, word, read-row, read-rows, read-shape, read, behind}
 use Rattle.words.specs.Format.{guard, within, shape-allowed, number-allowed, coordinates-allowed, header-allowed, row-allowed, rows-allowed, ordered, distinct, zeros, unused, records-allowed, archive-rows}
 use Rattle.words.proofs.Reading.{length-records, length-read-rows, read-rows-at, records-read, header-read, read-layout, length-layout}
@@ -325,7 +325,15 @@ passed-row w p i l =
     subst (RowBounds (read-shape w)) place (rows-bounds (read-shape w) rows (p .sound .rows-fit) i none inside)
 
 -- "The box is rx × ry × rz, at most 2^60."
+pub box-product : (s : Shape) → s .rx * (s .ry * s .rz) ≡ box (reference s)
+unfolding box
+box-product s = rw (mul-one (s .rz))
+
 pub box-bound : (s : Shape) → ShapeBounds s → box (reference s) ≤ 2 ^ 60
 unfolding box
 box-bound s b =
     le-trans (mul-le-mul (b .rx-high) (mul-le-mul (b .ry-high) (mul-le-mul (b .rz-high) (le-refl 1)))) (lit≤ tt)
+
+pub box-fits : (s : Shape) → shape-allowed s ≡ true → s .rx * (s .ry * s .rz) < 2 ^ 64
+box-fits s e =
+    subst (λ n. n < 2 ^ 64) (sym (box-product s)) (lt-of-le-of-lt (box-bound s (shape-bounds s e)) (lit< tt))

@@ -5,22 +5,24 @@ use mathlib.Core.Bool.{Bool}
 use mathlib.Core.List.{List, [], _∷_, _++_}
 use native.Mathlib.Nat.{add-zero}
 use native.Mathlib.Omega.{arith}
+use lib.Dec.{ltb}
 use lib.ListN.{length, getD, drop}
 use lib.Seq.{drop-drop, getD-drop}
 use borrow.Author.Count.{below-more}
 use borrow.Author.Tests.{lt-ltb, le-ltb}
 use Rattle.words.specs.Archive.{Row, trials, before}
-use Rattle.words.specs.Layout.{word, read-row, read-rows}
+use Rattle.words.specs.Layout.{word, read-row, read-rows, read}
 use Rattle.words.specs.Format.{held}
 use Rattle.words.specs.Places.{row-at, rows-before, follows, Found}
 use Rattle.words.proofs.Reading.{length-read-rows, read-rows-append, read-rows-at}
 use Rattle.words.proofs.Lists.{held-at, held-none}
 
+-- A record of five numbers.
+abbrev pub row-of : ℕ → ℕ → ℕ → ℕ → ℕ → Row
+row-of number x y z kept = record { trial = record { number = number; x = x; y = y; z = z }; kept = kept }
+
 -- The five words of the record at a place.
-pub row-at-words : (w : List ℕ) (i : ℕ) → record {
-  trial = record { number = word w (8 + 5 * i); x = word w (8 + 5 * i + 1); y = word w (8 + 5 * i + 2); z = word w (8 + 5 * i + 3) };
-  kept = word w (8 + 5 * i + 4);
-} ≡ row-at w i
+pub row-at-words : (w : List ℕ) (i : ℕ) → row-of (word w (8 + 5 * i)) (word w (8 + 5 * i + 1)) (word w (8 + 5 * i + 2)) (word w (8 + 5 * i + 3)) (word w (8 + 5 * i + 4)) ≡ row-at w i
 unfolding row-at read-row
 row-at-words w i = sym (simp (getD-drop, add-zero))
 
@@ -85,3 +87,8 @@ search-end w n number i u l =
     absent k k<n e =
         u .none k (omega arith)
         (ap (λ r. r .trial .number) (sym (rows-before-at w n k (row-at w i) k<n)) ∙ e)
+
+-- What finding a number tells of the archive that the words hold.
+pub find-held : (w : List ℕ) (number place : ℕ) → Found w (word w 0) number place → held number (trials (read w .rows)) ≡ ltb place (word w 0)
+unfolding read
+find-held w number place f = f .holds

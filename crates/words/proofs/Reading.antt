@@ -7,7 +7,7 @@ use native.Mathlib.Nat.{suc-add, zero-add}
 use native.Mathlib.Omega.{arith}
 use lib.ListN.{length, getD, take, drop, replicate, length-append, length-drop, length-replicate}
 use lib.Seq.{drop-at, drop-cons, drop-drop, take-add}
-use Rattle.words.specs.Archive.{Trial, Row, Shape, Archive}
+use Rattle.words.specs.Archive.{Row, Archive}
 use Rattle.words.specs.Layout.{header, record-words, records, extent, layout, word, read-row, read-rows, read-shape, read, behind}
 
 -- Records one list behind the other.

@@ -1,14 +1,13 @@
 -- Laws of the table of numbers met: marking a number sets its bit and keeps the bits that are set.
-use Prim.Native.Nat.{ℕ, zero, suc, _+_, _*_, _/_, _%_, _^_, _≤_, _<_, max}
-use mathlib.Core.Path.{_≡_, refl, sym, ap, _∙_}
-use mathlib.Core.Bool.{Bool, true, false}
+use Prim.Native.Nat.{ℕ, _*_, _/_, _%_, _^_, _≤_, _<_, max}
+use mathlib.Core.Path.{_≡_, ap, _∙_}
 use mathlib.Core.List.{List}
 use native.Mathlib.Nat.{one-mul, div-self, mod-lt, max-le, max-eq-left, max-eq-right}
 use native.Mathlib.Decide.{ℕ-discrete}
 use native.Mathlib.Omega.{arith}
 use lib.Arith.{digits-mod}
 use lib.Bits.{bitOr, or-step, or-shr}
-use lib.Dec.{eqb, lit<}
+use lib.Dec.{lit<}
 use lib.ListN.{length, getD, set}
 use lib.Pow.{pow-pos, shl-exact}
 use lib.Seq.{getD-set-same, getD-set-other}
@@ -18,14 +17,14 @@ use Rattle.words.specs.Table.{marked, Marking}
 bit-small : (a : ℕ) → a % 2 ≤ 1
 bit-small a = let small : a % 2 < 2 = mod-lt a (lit< tt) in omega arith
 
+larger-small : (a b : ℕ) → max (a % 2) (b % 2) < 2
+larger-small a b = let le : max (a % 2) (b % 2) ≤ 1 = max-le (bit-small a) (bit-small b) in omega arith
+
 -- A bit of a disjunction is the larger of the two bits.
 bit-or : (a b s : ℕ) → bitOr a b / 2 ^ s % 2 ≡ max (a / 2 ^ s % 2) (b / 2 ^ s % 2)
 bit-or a b s =
-    let small : max (a / 2 ^ s % 2) (b / 2 ^ s % 2) < 2 =
-    let le : max (a / 2 ^ s % 2) (b / 2 ^ s % 2) ≤ 1 = max-le (bit-small (a / 2 ^ s)) (bit-small (b / 2 ^ s)) in
-    omega arith in
     ap (λ n. n % 2) (or-shr a b s ∙ or-step (a / 2 ^ s) (b / 2 ^ s))
-    ∙ digits-mod (bitOr (a / 2 ^ s / 2) (b / 2 ^ s / 2)) small
+    ∙ digits-mod (bitOr (a / 2 ^ s / 2) (b / 2 ^ s / 2)) (larger-small (a / 2 ^ s) (b / 2 ^ s))
 
 bit-or-left : (a b s : ℕ) → a / 2 ^ s % 2 ≡ 1 → bitOr a b / 2 ^ s % 2 ≡ 1
 bit-or-left a b s e = bit-or a b s ∙ rw e (max-eq-left (bit-small (b / 2 ^ s)))

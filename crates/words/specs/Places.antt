@@ -36,11 +36,14 @@ unfoldable pub follows : List ℕ → ℕ → Bool
 follows w zero = true
 follows w (suc i) = before (row-at w i .trial) (row-at w (suc i) .trial)
 
+-- Whether a record before this place has the number of the record at it.
+abbrev pub repeated : List ℕ → ℕ → Bool
+repeated w i = held (row-at w i .trial .number) (trials (rows-before w i))
+
 -- Row 3 at a place: the record is allowed, stands in order, and no record before it has its number.
 unfoldable pub stands : List ℕ → ℕ → Bool
 stands w i =
-    both (row-allowed (read-shape w) (row-at w i))
-    (both (follows w i) (not (held (row-at w i .trial .number) (trials (rows-before w i)))))
+    both (row-allowed (read-shape w) (row-at w i)) (both (follows w i) (not (repeated w i)))
 
 -- Row 3 of the records alone: each allowed, in order, no number twice.
 unfoldable pub sound-rows : Shape → List Row → Bool
@@ -50,7 +53,7 @@ sound-rows s rows = both (rows-allowed s rows) (both (ordered (trials rows)) (di
 pub record AtPlace (w : List ℕ) (cells i : ℕ) (met : Bool) : Type 0 where
   pub inside : 8 + 5 * (i + 1) ≤ length w
   pub boxed : cells ≡ box (reference (read-shape w))
-  pub unmet : met ≡ false → held (row-at w i .trial .number) (trials (rows-before w i)) ≡ false
+  pub unmet : met ≡ false → repeated w i ≡ false
 
 -- Words that rows 1 and 2 let pass.
 pub record Headed (w : List ℕ) : Type 0 where

@@ -61,7 +61,7 @@ pub fn box_of(s: Shape) -> u64
     requires { ⌜ shape-allowed (as-shape s) ≡ true ⌝ }
     ensures { λ r. ⌜ r ≡ box (reference (as-shape s)) ⌝ }
 {
-    s.rx * (s.ry * (s.rz * 1))
+    s.rx * (s.ry * s.rz)
 }
 
 // Row 2. The ranges come first, so that the box fits a word.

@@ -4,7 +4,6 @@ use lib.ListN.{length}
 use lib.Seq.{length-take-le}
 use mathlib.Core.Path.{refl, sym}
 use native.Mathlib.Omega.{arith}
-use borrow.Author.Count.{falls}
 use borrow.Author.Needs.{needs}
 use Rattle.sweep.proofs.Sweeps.{Progress, progress-none, progress-crossing, progress-own, progress-fits, progress-placing, progress-more, progress-end}
 use Rattle.sweep.proofs.sweep.Statement.{statement}
@@ -53,7 +52,9 @@ shared-slice-read-edge : tie.Need-shared-slice-read-edge Inv-loop μ-loop
 shared-slice-read-edge c = search needs
 
 cast-edge : tie.Need-cast-edge Inv-loop μ-loop
-cast-edge c = record { fits = omega (arith, c .before .before .before .before .loop .inv .ready .zs-small (c .before .before .before .before .loop .i)) }
+cast-edge c =
+    let turn = c .before .before .before .before .loop in
+    record { fits = omega (arith, turn .inv .ready .zs-small (turn .i)) }
 
 edge-requires : tie.Need-edge-requires Inv-loop μ-loop
 edge-requires c κs = search needs
@@ -65,10 +66,19 @@ slice-aggregate-strips : tie.Need-slice-aggregate-strips Inv-loop μ-loop
 slice-aggregate-strips c = sym (length-take-le _ _ (search needs))
 
 strips-requires : tie.Need-strips-requires Inv-loop μ-loop
-strips-requires c κs = progress-crossing (c .before .before .before .before .before .before .before .loop .inv) (c .before .before .before .before .before .before .loop-test .taken) (c .before .before .edge .ensures)
+strips-requires c κs =
+    let raised = c .before .before in
+    let turn = raised .before .before .before .before in
+    progress-crossing (turn .before .loop .inv) (turn .loop-test .taken) (raised .edge .ensures)
 
 mul-own : tie.Need-mul-own Inv-loop μ-loop
-mul-own c = record { fits = progress-own (c .before .before .before .before .before .before .before .before .before .before .loop .inv) (c .before .before .before .before .before .before .before .before .before .loop-test .taken) (c .before .before .before .before .before .edge .ensures) (c .before .before .strips .ensures) }
+mul-own c =
+    let crossed = c .before .before in
+    let raised = crossed .before .before .before in
+    let turn = raised .before .before .before .before in
+    record {
+      fits = progress-own (turn .before .loop .inv) (turn .loop-test .taken) (raised .edge .ensures) (crossed .strips .ensures);
+    }
 
 mul-out : tie.Need-mul-out Inv-loop μ-loop
 mul-out c = search needs
@@ -77,16 +87,28 @@ slice-write-out : tie.Need-slice-write-out Inv-loop μ-loop
 slice-write-out c = search needs
 
 add-volume : tie.Need-add-volume Inv-loop μ-loop
-add-volume c = record { fits = progress-fits (c .before .before .before .before .before .before .before .before .before .before .loop .inv) (c .before .before .before .before .before .before .before .before .before .loop-test .taken) (c .before .before .before .before .before .edge .ensures) (c .before .before .strips .ensures) }
+add-volume c =
+    let crossed = c .before .before in
+    let raised = crossed .before .before .before in
+    let turn = raised .before .before .before .before in
+    record {
+      fits = progress-fits (turn .before .loop .inv) (turn .loop-test .taken) (raised .edge .ensures) (crossed .strips .ensures);
+    }
 
 slice-aggregate-place : tie.Need-slice-aggregate-place Inv-loop μ-loop
 slice-aggregate-place c = search needs
 
 entry-requires : tie.Need-entry-requires Inv-loop μ-loop
-entry-requires c κs = (c .before .before .before .before .before .before .before .before .before .before .before .loop .inv .ready .xs-small (c .before .before .before .before .before .before .before .before .before .before .before .loop .i), c .before .before .before .before .before .before .before .before .before .before .before .loop .inv .ready .ys-small (c .before .before .before .before .before .before .before .before .before .before .before .loop .i), omega (arith, c .before .before .before .before .before .before .before .before .before .before .before .loop .inv .ready .few))
+entry-requires c κs =
+    let raised = c .before .before .before .before .before .before in
+    let turn = raised .before .before .before .before .before .loop in
+    (turn .inv .ready .xs-small (turn .i), turn .inv .ready .ys-small (turn .i), omega (arith, turn .inv .ready .few))
 
 place-requires : tie.Need-place-requires Inv-loop μ-loop
-place-requires c κs = progress-placing (c .before .before .before .before .before .before .before .before .before .before .before .before .loop .inv) (c .before .before .before .before .before .before .before .before .before .before .before .loop-test .taken)
+place-requires c κs =
+    let raised = c .before .before .before .before .before .before .before in
+    let turn = raised .before .before .before .before in
+    progress-placing (turn .before .loop .inv) (turn .loop-test .taken)
 
 add-i : tie.Need-add-i Inv-loop μ-loop
 add-i c = search needs
@@ -96,7 +118,16 @@ loop-less c = search needs
 
 loop-again : tie.Need-loop-again Inv-loop μ-loop
 loop-again c =
-    progress-more (c .before .before .before .before .before .before .before .before .before .before .before .before .before .before .loop .inv) (c .before .before .before .before .before .before .before .before .before .before .before .before .before .loop-test .taken) (c .before .before .before .before .before .before .before .before .before .edge .ensures) (c .before .before .before .before .before .before .strips .ensures) refl (c .before .before .before .before .before .before .strips .kept .1 .1 .1 .1 .1 .1 .0) (c .before .before .entry .ensures) (c .before .place .ensures) (c .before .place .kept .0)
+    let placed = c .before in
+    let entered = placed .before in
+    let crossed = entered .before .before .before .before in
+    let raised = crossed .before .before .before in
+    let turn = raised .before .before .before .before in
+    progress-more (turn .before .loop .inv) (turn .loop-test .taken) (raised .edge .ensures) (crossed .strips .ensures) refl
+    (crossed .strips .kept .1 .1 .1 .1 .1 .1 .0)
+    (entered .entry .ensures)
+    (placed .place .ensures)
+    (placed .place .kept .0)
 
 same-length : tie.Need-same-length Inv-loop μ-loop
 same-length c = search needs

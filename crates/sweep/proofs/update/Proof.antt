@@ -55,8 +55,14 @@ length-u : (c : tie.Start) → length (c .args .t4 .at) ≡ 3
 length-u c = search needs
 
 -- the lists lent to the sweep
+abbrev first : tie.After-cz2 → tie.After-corners
+first c = c .before .before .before .before .before .before .before .before .before
+
+abbrev second : tie.After-cz2 → tie.After-corners2
+second c = c .before .before .before .before .before
+
 abbrev start : tie.After-cz2 → tie.Start
-start c = c .before .before .before .before .before .before .before .before .before .before .before .before .before .before .before .before
+start c = first c .before .before .before .before .before .before .before
 
 abbrev u : tie.After-cz2 → List ℕ
 u c = start c .args .t4 .at
@@ -64,28 +70,17 @@ u c = start c .args .t4 .at
 abbrev xs : tie.After-cz2 → List ℕ
 xs c = now (start c .args .xs)
 
-abbrev ys : tie.After-cz2 → List ℕ
-ys c = now (start c .args .ys)
+-- the first numbers of an array that the corners were filled into
+abbrev lent : tie.After-cz2 → List ℕ → List ℕ
+lent c l = take (length (xs c)) l
 
-abbrev zs : tie.After-cz2 → List ℕ
-zs c = now (start c .args .zs)
-
-abbrev cx : tie.After-cz2 → List ℕ
-cx c = c .before .before .before .before .before .before .before .before .before .corners .last .1 .1 .0
-
-abbrev cy : tie.After-cz2 → List ℕ
-cy c = c .before .before .before .before .before .corners2 .last .1 .1 .0
-
-abbrev cz : tie.After-cz2 → List ℕ
-cz c = c .before .corners3 .last .1 .1 .0
-
-cornered : (c : tie.After-cz2) → Cornered (u c) (xs c) (ys c) (zs c) (take (length (xs c)) (cx c)) (take (length (xs c)) (cy c)) (take (length (xs c)) (cz c))
+cornered : (c : tie.After-cz2) → Cornered (u c) (xs c) (now (start c .args .ys)) (now (start c .args .zs)) (lent c (first c .corners .last .1 .1 .0)) (lent c (second c .corners2 .last .1 .1 .0)) (lent c (c .before .corners3 .last .1 .1 .0))
 cornered c =
     record {
       axes = length-u (start c);
-      x = filled-part (xs c) (getD (u c) 0 0) zeros (cx c) (length (xs c)) (c .before .before .before .before .before .before .before .before .before .corners .ensures) refl;
-      y = filled-part (ys c) (getD (u c) 1 0) zeros (cy c) (length (xs c)) (c .before .before .before .before .before .corners2 .ensures) (start c .pre .0 .ys-many);
-      z = filled-part (zs c) (getD (u c) 2 0) zeros (cz c) (length (xs c)) (c .before .corners3 .ensures) (start c .pre .0 .zs-many);
+      x = filled-part (xs c) (getD (u c) 0 0) zeros (first c .corners .last .1 .1 .0) (length (xs c)) (first c .corners .ensures) refl;
+      y = filled-part (now (start c .args .ys)) (getD (u c) 1 0) zeros (second c .corners2 .last .1 .1 .0) (length (xs c)) (second c .corners2 .ensures) (start c .pre .0 .ys-many);
+      z = filled-part (now (start c .args .zs)) (getD (u c) 2 0) zeros (c .before .corners3 .last .1 .1 .0) (length (xs c)) (c .before .corners3 .ensures) (start c .pre .0 .zs-many);
     }
   where
     zeros : List ℕ
@@ -107,22 +102,28 @@ slice-aggregate-sweep-3 : tie.Need-slice-aggregate-sweep-3
 slice-aggregate-sweep-3 c = sym (length-take-le _ _ (search needs))
 
 sweep-requires : tie.Need-sweep-requires
-sweep-requires c κs = cornered-ready (cornered (c .before .before .before .before)) (c .before .before .before .before .before .before .before .before .before .before .before .before .before .before .before .before .before .before .before .before .pre .0) (c .before .before .before .before .before .before .before .before .before .before .before .before .before .before .before .before .before .before .before .before .pre .1)
+sweep-requires c κs =
+    let filled = c .before .before .before .before in
+    cornered-ready (cornered filled) (start filled .pre .0) (start filled .pre .1)
 
 edges-requires : tie.Need-edges-requires
 edges-requires c κs = search needs
 
 sub-result : tie.Need-sub-result
-sub-result c = cornered-enough (cornered (c .before .before .before .before .before .before .before .before)) _ (c .before .before .before .sweep .ensures .0) (c .edges .ensures)
+sub-result c =
+    let swept = c .before .before .before in
+    cornered-enough (cornered (swept .before .before .before .before .before)) _ (swept .sweep .ensures .0) (c .edges .ensures)
 
 same-length : tie.Need-same-length
 same-length c = search needs
 
 returns : tie.Need-returns
-returns c = (
-  cornered-gain (cornered (c .before .before .before .before .before .before .before .before)) _ (c .before .before .before .sweep .ensures .0) (c .edges .ensures),
-  cornered-joints (cornered (c .before .before .before .before .before .before .before .before)) _ _ (c .before .before .before .sweep .ensures .1),
-)
+returns c =
+    let swept = c .before .before .before in
+    let filled = swept .before .before .before .before .before in (
+      cornered-gain (cornered filled) _ (swept .sweep .ensures .0) (c .edges .ensures),
+      cornered-joints (cornered filled) _ _ (swept .sweep .ensures .1),
+    )
 
 pub update-spec : {M : Type 1} → statement M
 update-spec =

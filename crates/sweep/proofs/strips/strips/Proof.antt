@@ -42,16 +42,26 @@ smaller-requires-2 : tie.Need-smaller-requires-2 Inv-loop μ-loop
 smaller-requires-2 c κs = search needs
 
 -- where the strip of this turn ends
-next-is : (c : tie.After-smaller2 Inv-loop μ-loop) → c .smaller2 .result ≡ min (xOf (getD (now (c .before .before .before .before .before .before .before .before .before .before .args .line)) (c .before .before .before .before .before .before .loop .k) 0)) (c .before .before .before .before .before .before .before .before .before .before .args .rx)
-next-is c = c .smaller2 .ensures ∙ ap (λ x. min x (c .before .before .before .before .before .before .before .before .before .before .args .rx)) (c .before .x-of .ensures)
+abbrev turn : tie.After-smaller2 Inv-loop μ-loop → tie.In-loop Inv-loop μ-loop
+turn c = c .before .before .before .before .before
+
+abbrev start : tie.In-loop Inv-loop μ-loop → tie.Start Inv-loop μ-loop
+start c = c .before .before .before .before .before
+
+next-is : (c : tie.After-smaller2 Inv-loop μ-loop) → c .smaller2 .result ≡ min (xOf (getD (now (start (turn c) .args .line)) (turn c .before .loop .k) 0)) (start (turn c) .args .rx)
+next-is c = c .smaller2 .ensures ∙ ap (λ x. min x (start (turn c) .args .rx)) (c .before .x-of .ensures)
 
 settle-requires : tie.Need-settle-requires Inv-loop μ-loop
-settle-requires c κs = turn-settling (c .before .before .before .before .before .before .before .before .before .before .before .pre) (c .before .before .before .before .before .before .before .loop .inv) (next-is (c .before))
+settle-requires c κs =
+    let here = turn (c .before) in
+    turn-settling (start here .pre) (here .before .loop .inv) (next-is (c .before))
 
 add-area : tie.Need-add-area Inv-loop μ-loop
 add-area c =
+    let settled = c .before .before in
+    let here = turn (settled .before .before) in
     record {
-      fits = swept-fits (c .before .before .before .before .before .before .before .before .before .before .before .before .before .before .pre) (turn-settled (c .before .before .before .before .before .before .before .before .before .before .before .before .before .before .pre) (c .before .before .before .before .before .before .before .before .before .before .loop .inv) (next-is (c .before .before .before .before)) (c .before .before .settle .ensures));
+      fits = swept-fits (start here .pre) (turn-settled (start here .pre) (here .before .loop .inv) (next-is (settled .before .before)) (settled .settle .ensures));
     }
 
 larger-requires : tie.Need-larger-requires Inv-loop μ-loop
@@ -60,8 +70,8 @@ larger-requires c κs = search needs
 y-of-requires : tie.Need-y-of-requires Inv-loop μ-loop
 y-of-requires c κs = search needs
 
-place-of-requires : tie.Need-place-of-requires Inv-loop μ-loop
-place-of-requires c κs = search needs
+index-of-requires : tie.Need-index-of-requires Inv-loop μ-loop
+index-of-requires c κs = search needs
 
 with-requires : tie.Need-with-requires Inv-loop μ-loop
 with-requires c κs = search needs
@@ -70,26 +80,47 @@ add-k : tie.Need-add-k Inv-loop μ-loop
 add-k c = search needs
 
 loop-less : tie.Need-loop-less Inv-loop μ-loop
-loop-less c = falls _ _ (c .before .before .before .before .before .before .before .before .before .before .before .before .before .loop-test .taken)
+loop-less c =
+    let settled = c .before .before .before .before .before .before in
+    falls _ _ (turn (settled .before .before) .loop-test .taken)
 
 loop-again : tie.Need-loop-again Inv-loop μ-loop
 loop-again c =
-    swept-more (c .before .before .before .before .before .before .before .before .before .before .before .before .before .before .before .before .before .before .pre) (c .before .before .before .before .before .before .before .before .before .before .before .before .before .before .loop .inv) (next-is (c .before .before .before .before .before .before .before .before)) (c .before .before .before .before .before .before .settle .ensures) (c .before .before .before .larger .ensures) (c .before .before .y-of .ensures) (c .before .place-of .ensures) (c .with .ensures) (c .before .before .before .before .before .before .before .before .before .before .before .before .before .loop-test .taken)
+    let indexed = c .before in
+    let lowered = indexed .before in
+    let moved = lowered .before in
+    let settled = moved .before .before .before in
+    let here = turn (settled .before .before) in
+    swept-more (start here .pre) (here .before .loop .inv) (next-is (settled .before .before)) (settled .settle .ensures)
+    (moved .larger .ensures)
+    (lowered .y-of .ensures)
+    (indexed .index-of .ensures)
+    (c .with .ensures)
+    (here .loop-test .taken)
 
 settle-requires-2 : tie.Need-settle-requires-2 Inv-loop μ-loop
-settle-requires-2 c κs = end-settling (c .before .before .before .before .before .before .pre) (c .before .before .loop .inv) (c .before .loop-test .left)
+settle-requires-2 c κs =
+    let start = c .before .before .before .before .before .before in
+    end-settling (start .pre) (c .before .before .loop .inv) (c .before .loop-test .left)
 
 add-result : tie.Need-add-result Inv-loop μ-loop
 add-result c =
+    let settled = c .before .before in
+    let end = settled .before .before in
+    let start = end .before .before .before .before .before in
     record {
-      fits = swept-fits (c .before .before .before .before .before .before .before .before .before .pre) (end-settled (c .before .before .before .before .before .before .before .before .before .pre) (c .before .before .before .before .before .loop .inv) (c .before .before .before .before .loop-test .left) (c .before .before .settle2 .ensures));
+      fits = swept-fits (start .pre) (end-settled (start .pre) (end .before .loop .inv) (end .loop-test .left) (settled .settle2 .ensures));
     }
 
 same-length-2 : tie.Need-same-length-2 Inv-loop μ-loop
 same-length-2 c = search needs
 
 returns-2 : tie.Need-returns-2 Inv-loop μ-loop
-returns-2 c = end-crossed (c .before .before .before .before .before .before .before .before .before .pre) (c .before .before .before .before .before .loop .inv) (c .before .before .before .before .loop-test .left) (c .before .before .settle2 .ensures)
+returns-2 c =
+    let settled = c .before .before in
+    let end = settled .before .before in
+    let start = end .before .before .before .before .before in
+    end-crossed (start .pre) (end .before .loop .inv) (end .loop-test .left) (settled .settle2 .ensures)
 
 pub strips-spec : {M : Type 1} → statement M
 strips-spec =
@@ -109,7 +140,7 @@ strips-spec =
     add-area
     larger-requires
     y-of-requires
-    place-of-requires
+    index-of-requires
     with-requires
     add-k
     loop-less

@@ -1,31 +1,21 @@
-use Rattle.words.proofs.Passed.{shape-bounds, box-bound}
-use Rattle.hypervolume.specs.Cells.{box}
+-- `box_of` meets its contract: within the allowed ranges no product overflows.
+use native.Mathlib.Nat.{lt-of-le-of-lt, mul-le-mul}
 use lib.Dec.{lit<}
-use native.Mathlib.Nat.{le-refl, lt-of-le-of-lt, mul-le-mul}
-use mathlib.Core.Path.{refl}
-use borrow.Author.Needs.{needs}
+use Rattle.words.specs.Places.{as-shape}
+use Rattle.words.proofs.Passed.{shape-bounds, box-fits, box-product}
 use Rattle.words.proofs.check.box_of.Statement.{statement}
 use Rattle.words.proofs.check.box_of.Tie as tie
-use Rattle.words.proofs.check.box_of.Reads as reads
-use Rattle.words.proofs.check.box_of.Lts as lts
 
--- src/check.rt:57:21
 mul-result : tie.Need-mul-result
-mul-result c = search needs
+mul-result c =
+    let b = shape-bounds _ (c .before .pre) in
+    record { fits = lt-of-le-of-lt (mul-le-mul (b .ry-high) (b .rz-high)) (lit< tt) }
 
--- src/check.rt:57:13
 mul-result-2 : tie.Need-mul-result-2
-mul-result-2 c = let b = shape-bounds _ (c .before .before .pre) in record { fits = lt-of-le-of-lt (mul-le-mul (b .ry-high) (mul-le-mul (b .rz-high) (le-refl 1))) (lit< tt) }
+mul-result-2 c = record { fits = box-fits _ (c .before .before .pre) }
 
--- src/check.rt:57:5
-mul-result-3 : tie.Need-mul-result-3
-unfolding box
-mul-result-3 c = record { fits = lt-of-le-of-lt (box-bound _ (shape-bounds _ (c .before .before .before .pre))) (lit< tt) }
-
--- src/check.rt:53:1
 returns : tie.Need-returns
-unfolding box
-returns c = refl
+returns c = box-product (as-shape (c .before .before .args .s))
 
 pub box-of-spec : {M : Type 1} → statement M
-box-of-spec = tie.close (tie.spec mul-result mul-result-2 mul-result-3 returns)
+box-of-spec = tie.close (tie.spec mul-result mul-result-2 returns)

@@ -1,51 +1,38 @@
-use Rattle.words.proofs.Checking.{first-failed, first-passed, header-facts, records-test, unused-part}
-use native.Mathlib.Omega.{arith}
+-- `records_allowed` meets its contract: the records decide, or leave it to the unused words.
 use mathlib.Core.Path.{_∙_}
+use native.Mathlib.Omega.{arith}
 use borrow.Author.Needs.{needs}
+use Rattle.words.proofs.Checking.{first-failed, first-passed, header-facts, records-test, unused-part}
 use Rattle.words.proofs.check.records_allowed.Statement.{statement}
 use Rattle.words.proofs.check.records_allowed.Tie as tie
-use Rattle.words.proofs.check.records_allowed.Reads as reads
-use Rattle.words.proofs.check.records_allowed.Lts as lts
-use Rattle.words.proofs.check.rows_allowed.Reads as rows-allowed-reads
-use Rattle.words.proofs.check.zeros.Reads as zeros-reads
 
--- src/check.rt:171:9
 rows-allowed-requires : tie.Need-rows-allowed-requires
 rows-allowed-requires c κs = search needs
 
--- src/check.rt:172:9
 returns : tie.Need-returns
 returns c = first-failed _ _ _ (records-test _ _ (c .before .rows-allowed .ensures)) (c .if1 .taken)
 
--- src/check.rt:174:22
 shared-slice-read-zeros : tie.Need-shared-slice-read-zeros
 shared-slice-read-zeros c = let facts = header-facts _ (c .before .before .before .before .pre) in omega arith
 
--- src/check.rt:174:18
 mul-zeros : tie.Need-mul-zeros
 mul-zeros c = let facts = header-facts _ (c .before .before .before .before .pre) in omega arith
 
--- src/check.rt:174:14
 add-zeros : tie.Need-add-zeros
 add-zeros c = let facts = header-facts _ (c .before .before .before .before .pre) in omega arith
 
--- src/check.rt:174:45
 shared-slice-read-zeros-2 : tie.Need-shared-slice-read-zeros-2
 shared-slice-read-zeros-2 c = let facts = header-facts _ (c .before .before .before .before .before .pre) in omega arith
 
--- src/check.rt:174:41
 mul-zeros-2 : tie.Need-mul-zeros-2
 mul-zeros-2 c = let facts = header-facts _ (c .before .before .before .before .before .pre) in omega arith
 
--- src/check.rt:174:37
 add-zeros-2 : tie.Need-add-zeros-2
 add-zeros-2 c = let facts = header-facts _ (c .before .before .before .before .before .pre) in omega arith
 
--- src/check.rt:174:5
 zeros-requires : tie.Need-zeros-requires
 zeros-requires c κs = let facts = header-facts _ (c .before .before .before .before .before .pre) in omega arith
 
--- src/check.rt:167:1
 returns-2 : tie.Need-returns-2
 returns-2 c =
     c .zeros .ensures

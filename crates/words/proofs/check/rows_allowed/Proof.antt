@@ -1,16 +1,12 @@
-use Rattle.words.proofs.Checking.{header-facts, Standing, standing-none, standing-more, standing-place, standing-stop, standing-end}
-use Rattle.words.specs.Format.{shape-allowed}
-use native.Mathlib.Omega.{arith}
-use mathlib.Core.Path.{_∙_, ap, refl, sym}
+-- `rows_allowed` meets its contract. The loop's invariant: the records before place i stand, and the table has their
+-- numbers. The measure is the number of records left.
 use Prim.Native.Nat.{_-_}
+use mathlib.Core.Path.{_∙_, ap, refl, sym}
+use native.Mathlib.Omega.{arith}
+use Rattle.words.specs.Format.{shape-allowed}
+use Rattle.words.proofs.Checking.{header-facts, Standing, standing-none, standing-more, standing-place, standing-stop, standing-end}
 use Rattle.words.proofs.check.rows_allowed.Statement.{statement}
 use Rattle.words.proofs.check.rows_allowed.Tie as tie
-use Rattle.words.proofs.check.rows_allowed.Reads as reads
-use Rattle.words.proofs.check.rows_allowed.Lts as lts
-use Rattle.words.proofs.check.box_of.Reads as box-of-reads
-use Rattle.words.proofs.check.mark.Reads as mark-reads
-use Rattle.words.proofs.check.stands.Reads as stands-reads
-use Rattle.words.proofs.rows.shape_of.Reads as shape-of-reads
 
 abbrev Inv-loop : tie.InvT-loop
 Inv-loop w cells n table₀ i₀ table i = Standing w cells table i
@@ -18,67 +14,51 @@ Inv-loop w cells n table₀ i₀ table i = Standing w cells table i
 abbrev μ-loop : tie.MeasureT-loop
 μ-loop w cells n table₀ i₀ table i = n - i
 
--- src/check.rt:138:24
 shape-of-requires : tie.Need-shape-of-requires Inv-loop μ-loop
 shape-of-requires c κs = let facts = header-facts _ (c .before .pre) in omega arith
 
--- src/check.rt:138:9
 box-of-requires : tie.Need-box-of-requires Inv-loop μ-loop
 box-of-requires c κs = ap shape-allowed (c .shape-of .ensures) ∙ header-facts _ (c .before .before .pre) .shaped
 
--- src/check.rt:139:13
 shared-slice-read-n : tie.Need-shared-slice-read-n Inv-loop μ-loop
 shared-slice-read-n c = let facts = header-facts _ (c .before .before .before .before .pre) in omega arith
 
--- src/check.rt:142:5
 loop-holds : tie.Need-loop-holds Inv-loop μ-loop
 loop-holds c = standing-none _ _ _ _ (c .before .before .before .before .pre) (c .before .before .shape-of .ensures) (c .before .box-of .ensures) refl
 
--- src/check.rt:143:24
 slice-aggregate-mark : tie.Need-slice-aggregate-mark Inv-loop μ-loop
 slice-aggregate-mark c = sym (c .before .before .loop .inv .sized)
 
--- src/check.rt:143:42
 mul-mark : tie.Need-mul-mark Inv-loop μ-loop
 mul-mark c = omega arith
 
--- src/check.rt:143:38
 add-mark : tie.Need-add-mark Inv-loop μ-loop
 add-mark c = omega arith
 
--- src/check.rt:143:36
 mul-mark-2 : tie.Need-mul-mark-2 Inv-loop μ-loop
 mul-mark-2 c = omega arith
 
--- src/check.rt:143:36
 shared-slice-read-mark : tie.Need-shared-slice-read-mark Inv-loop μ-loop
 shared-slice-read-mark c = omega arith
 
--- src/check.rt:143:13
 mark-requires : tie.Need-mark-requires Inv-loop μ-loop
 mark-requires c κs = c .before .before .before .loop .inv .sized
 
--- src/check.rt:144:13
 stands-requires : tie.Need-stands-requires Inv-loop μ-loop
 stands-requires c κs = standing-place _ _ _ _ _ (c .before .before .before .before .before .loop .inv) (c .before .before .before .before .loop-test .taken) (c .before .mark .ensures .0)
 
--- src/check.rt:145:13
 returns : tie.Need-returns Inv-loop μ-loop
 returns c = standing-stop _ _ _ _ _ (c .before .before .before .before .before .before .before .loop .inv) (c .before .before .before .before .before .before .loop-test .taken) (c .before .stands .ensures) (c .if1 .taken)
 
--- src/check.rt:147:9
 add-i : tie.Need-add-i Inv-loop μ-loop
 add-i c = omega arith
 
--- src/check.rt:142:5
 loop-less : tie.Need-loop-less Inv-loop μ-loop
 loop-less c = omega arith
 
--- src/check.rt:142:5
 loop-again : tie.Need-loop-again Inv-loop μ-loop
 loop-again c = standing-more _ _ _ _ _ _ (c .before .before .before .before .before .before .before .loop .inv) (c .before .before .before .before .before .before .loop-test .taken) (c .before .stands .ensures) (c .if1 .left) (c .before .before .before .mark .ensures .1) (c .before .before .before .mark .kept .0)
 
--- src/check.rt:134:1
 returns-2 : tie.Need-returns-2 Inv-loop μ-loop
 returns-2 c = standing-end _ _ _ _ (c .before .loop .inv) (c .loop-test .left)
 

@@ -1,10 +1,9 @@
--- `put_header` meets its contract: eight words written one by one.
+-- `put_header` meets its contract.
 use native.Mathlib.Omega.{arith}
 use lib.ListN.{length-set}
 use lib.Seq.{sets-eq}
-use mathlib.Core.List.{_∷_, []}
-use Rattle.words.specs.Places.{header-words}
 use borrow.Author.Needs.{needs}
+use Rattle.words.specs.Places.{as-shape, header-words}
 use Rattle.words.proofs.header.put_header.Statement.{statement}
 use Rattle.words.proofs.header.put_header.Tie as tie
 
@@ -36,7 +35,7 @@ same-length : tie.Need-same-length
 same-length c = search needs
 
 returns : tie.Need-returns
-returns c = sets-eq (c .args .count ∷ c .args .s .capacity ∷ c .args .s .rx ∷ c .args .s .ry ∷ c .args .s .rz ∷ c .args .total ∷ 0 ∷ 0 ∷ []) (c .args .w .now) 0 (c .pre)
+returns c = sets-eq (header-words (c .args .count) (as-shape (c .args .s)) (c .args .total)) (c .args .w .now) 0 (c .pre)
 
 pub put-header-spec : {M : Type 1} → statement M
 put-header-spec =

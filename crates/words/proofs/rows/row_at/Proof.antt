@@ -1,75 +1,57 @@
+-- `row_at` meets its contract.
 use borrow.Author.Needs.{needs}
 use Rattle.words.proofs.Places.{row-at-words}
 use Rattle.words.proofs.rows.row_at.Statement.{statement}
 use Rattle.words.proofs.rows.row_at.Tie as tie
-use Rattle.words.proofs.rows.row_at.Reads as reads
-use Rattle.words.proofs.rows.row_at.Lts as lts
 
--- src/rows.rt:30:18
 mul-at : tie.Need-mul-at
 mul-at c = search needs
 
--- src/rows.rt:30:14
 add-at : tie.Need-add-at
 add-at c = search needs
 
--- src/rows.rt:32:17
 mul-t4 : tie.Need-mul-t4
 mul-t4 c = search needs
 
--- src/rows.rt:32:17
 shared-slice-read-t6 : tie.Need-shared-slice-read-t6
 shared-slice-read-t6 c = search needs
 
--- src/rows.rt:33:14
 add-t7 : tie.Need-add-t7
 add-t7 c = search needs
 
--- src/rows.rt:33:12
 mul-t8 : tie.Need-mul-t8
 mul-t8 c = search needs
 
--- src/rows.rt:33:12
 shared-slice-read-t10 : tie.Need-shared-slice-read-t10
 shared-slice-read-t10 c = search needs
 
--- src/rows.rt:34:14
 add-t11 : tie.Need-add-t11
 add-t11 c = search needs
 
--- src/rows.rt:34:12
 mul-t12 : tie.Need-mul-t12
 mul-t12 c = search needs
 
--- src/rows.rt:34:12
 shared-slice-read-t14 : tie.Need-shared-slice-read-t14
 shared-slice-read-t14 c = search needs
 
--- src/rows.rt:35:14
 add-t15 : tie.Need-add-t15
 add-t15 c = search needs
 
--- src/rows.rt:35:12
 mul-t16 : tie.Need-mul-t16
 mul-t16 c = search needs
 
--- src/rows.rt:35:12
 shared-slice-read-t18 : tie.Need-shared-slice-read-t18
 shared-slice-read-t18 c = search needs
 
--- src/rows.rt:36:17
 add-t19 : tie.Need-add-t19
 add-t19 c = search needs
 
--- src/rows.rt:36:15
 mul-t20 : tie.Need-mul-t20
 mul-t20 c = search needs
 
--- src/rows.rt:36:15
 shared-slice-read-t22 : tie.Need-shared-slice-read-t22
 shared-slice-read-t22 c = search needs
 
--- src/rows.rt:26:1
 returns : tie.Need-returns
 returns c = row-at-words _ _
 

@@ -1,10 +1,10 @@
-use Rattle.words.proofs.Places.{Unfound, search-none, search-more, search-stop, search-end}
-use native.Mathlib.Omega.{arith}
+-- `search` meets its contract. The loop's invariant: no record before place i has the number. The measure is the number of
+-- records left.
 use Prim.Native.Nat.{_-_}
+use native.Mathlib.Omega.{arith}
+use Rattle.words.proofs.Places.{Unfound, search-none, search-more, search-stop, search-end}
 use Rattle.words.proofs.rows.search.Statement.{statement}
 use Rattle.words.proofs.rows.search.Tie as tie
-use Rattle.words.proofs.rows.search.Reads as reads
-use Rattle.words.proofs.rows.search.Lts as lts
 
 abbrev Inv-loop : tie.InvT-loop
 Inv-loop w n number i₀ i = Unfound w n number i
@@ -12,43 +12,33 @@ Inv-loop w n number i₀ i = Unfound w n number i
 abbrev μ-loop : tie.MeasureT-loop
 μ-loop w n number i₀ i = n - i
 
--- src/rows.rt:59:5
 loop-holds : tie.Need-loop-holds Inv-loop μ-loop
 loop-holds c = search-none _ _ _
 
--- src/rows.rt:60:18
 mul-if1 : tie.Need-mul-if1 Inv-loop μ-loop
 mul-if1 c = omega arith
 
--- src/rows.rt:60:14
 add-if1 : tie.Need-add-if1 Inv-loop μ-loop
 add-if1 c = omega arith
 
--- src/rows.rt:60:12
 mul-if1-2 : tie.Need-mul-if1-2 Inv-loop μ-loop
 mul-if1-2 c = omega arith
 
--- src/rows.rt:60:12
 shared-slice-read-if1 : tie.Need-shared-slice-read-if1 Inv-loop μ-loop
 shared-slice-read-if1 c = omega arith
 
--- src/rows.rt:61:13
 returns : tie.Need-returns Inv-loop μ-loop
 returns c = search-stop _ _ _ _ (c .before .before .before .loop .inv) (c .before .before .loop-test .taken) (c .if1 .taken)
 
--- src/rows.rt:63:9
 add-i : tie.Need-add-i Inv-loop μ-loop
 add-i c = omega arith
 
--- src/rows.rt:59:5
 loop-less : tie.Need-loop-less Inv-loop μ-loop
 loop-less c = omega arith
 
--- src/rows.rt:59:5
 loop-again : tie.Need-loop-again Inv-loop μ-loop
 loop-again c = search-more _ _ _ _ (c .before .before .before .loop .inv) (c .before .before .loop-test .taken) (c .if1 .left)
 
--- src/rows.rt:54:1
 returns-2 : tie.Need-returns-2 Inv-loop μ-loop
 returns-2 c = search-end _ _ _ _ (c .before .loop .inv) (c .loop-test .left)
 

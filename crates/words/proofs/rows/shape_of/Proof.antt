@@ -1,28 +1,22 @@
-use borrow.Author.Needs.{needs}
+-- `shape_of` meets its contract.
 use mathlib.Core.Path.{refl}
+use borrow.Author.Needs.{needs}
 use Rattle.words.specs.Layout.{read-shape}
 use Rattle.words.proofs.rows.shape_of.Statement.{statement}
 use Rattle.words.proofs.rows.shape_of.Tie as tie
-use Rattle.words.proofs.rows.shape_of.Reads as reads
-use Rattle.words.proofs.rows.shape_of.Lts as lts
 
--- src/rows.rt:46:19
 shared-slice-read-t3 : tie.Need-shared-slice-read-t3
 shared-slice-read-t3 c = search needs
 
--- src/rows.rt:47:13
 shared-slice-read-t5 : tie.Need-shared-slice-read-t5
 shared-slice-read-t5 c = search needs
 
--- src/rows.rt:48:13
 shared-slice-read-t7 : tie.Need-shared-slice-read-t7
 shared-slice-read-t7 c = search needs
 
--- src/rows.rt:49:13
 shared-slice-read-t9 : tie.Need-shared-slice-read-t9
 shared-slice-read-t9 c = search needs
 
--- src/rows.rt:41:1
 returns : tie.Need-returns
 unfolding read-shape
 returns c = refl

@@ -2,8 +2,8 @@
 use Prim.Native.Nat.{_-_}
 use native.Mathlib.Omega.{arith}
 use Rattle.archive.proofs.Digits.{Dividing, dividing-none, dividing-more, dividing-end, digit-fits}
-use Rattle.archive.proofs.share.millionths.Statement.{statement}
-use Rattle.archive.proofs.share.millionths.Tie as tie
+use Rattle.archive.proofs.division.millionths.Statement.{statement}
+use Rattle.archive.proofs.division.millionths.Tie as tie
 
 abbrev Inv-loop : tie.InvT-loop
 Inv-loop total whole quotient₀ rest₀ counter₀ quotient rest counter = Dividing total whole quotient rest counter

@@ -1,0 +1,146 @@
+// Loading a card: first into words of its own, so that a refused card leaves the lent slice as it was.
+use crate::Loaded;
+use crate::lines::Due;
+use crate::lines::read_line;
+use archive::insert;
+use archive::start;
+use hypervolume::Point;
+use text::Line;
+ghost use mathlib.Core.Path.{_≡_};
+ghost use mathlib.Core.List.{[], _∷_};
+ghost use mathlib.Core.List.{_++_};
+ghost use Prim.Native.Nat.{_≤_, _<_, min};
+ghost use lib.ListN.{length, take, drop};
+ghost use Rattle.text.specs.Lines.{numbersOf};
+ghost use Rattle.card.specs.Card.{first-line, further-line, load, ReadInto, Short};
+ghost use Rattle.card.specs.Check.{check};
+
+// The point of three fields.
+fn point_of(x: u64, y: u64, z: u64) -> Point
+    requires { ⌜ (x < 100000000) × (y < 100000000) × (z < 100000000) ⌝ }
+    ensures { λ r. ⌜ r .at ≡ x ∷ y ∷ z ∷ [] ⌝ }
+{
+    Point {
+        at: [x as u32, y as u32, z as u32],
+    }
+}
+
+// Line 1: the start of the archive. Answers 15, 4, 1 or 0.
+fn first_line(w: &mut [u64], l: Line) -> u64
+    requires { ⌜ Short l ⌝ }
+    ensures { λ r. ⌜ (r ≡ first-line (now (w .entry)) (numbersOf l) .refusal) × (now (w .exit) ≡ first-line (now (w .entry)) (numbersOf l) .words) ⌝ }
+{
+    let Line::Values {
+        first,
+        second,
+        third,
+        fourth,
+    } = l
+    else {
+        return 15;
+    };
+    start(w, point_of(second, third, fourth), first)
+}
+
+// A further line: an insertion. Answers 15, 5 to 8 or 0.
+fn further_line(w: &mut [u64], l: Line) -> u64
+    requires { ⌜ Short l ⌝ }
+    ensures { λ r. ⌜ (r ≡ further-line (now (w .entry)) (numbersOf l) .refusal) × (now (w .exit) ≡ further-line (now (w .entry)) (numbersOf l) .words) ⌝ }
+{
+    let Line::Values {
+        first,
+        second,
+        third,
+        fourth,
+    } = l
+    else {
+        return 15;
+    };
+    insert(w, first, point_of(second, third, fourth))
+}
+
+fn refused(refusal: u64, line: u64) -> Loaded
+    ensures { λ r. ⌜ r ≡ record { refusal = refusal; line = line; count = 0 } ⌝ }
+{
+    Loaded {
+        refusal,
+        line,
+        count: 0,
+    }
+}
+
+// Loads the card into these words, line by line, and stops at the first line refused.
+pub fn read_card(w: &mut [u64], card: &[u8]) -> Loaded
+    ensures { λ r. ⌜ ReadInto (load (now (w .entry)) (now (card .entry))) r (now (w .exit)) ⌝ }
+{
+    let Due::Next(first) = read_line(card, 1) else {
+        return refused(15, 1);
+    };
+    let started = first_line(w, first);
+    if started != 0 {
+        return refused(started, 1);
+    }
+    let mut line: usize = 2;
+    while let Due::Next(l) = read_line(card, line) {
+        let entered = further_line(w, l);
+        if entered != 0 {
+            return refused(entered, line as u64);
+        }
+        line += 1;
+    }
+    Loaded {
+        refusal: 0,
+        line: 0,
+        count: (line - 2) as u64,
+    }
+}
+
+// Words that are enough for every capacity.
+pub fn long_enough() -> [u64; 2568]
+    ensures { λ r. ⌜ 2568 ≡ length r ⌝ }
+{
+    [0; 2568]
+}
+
+fn least(a: usize, b: usize) -> usize
+    ensures { λ r. ⌜ r ≡ min a b ⌝ }
+{
+    if a < b { a } else { b }
+}
+
+// Copies the first n words.
+fn copy(from: &[u64], n: usize, to: &mut [u64])
+    requires { ⌜ (n ≤ length (now from)) × (n ≤ length (now to)) ⌝ }
+    ensures { λ _. ⌜ now (to .exit) ≡ take n (now (from .entry)) ++ drop n (now (to .entry)) ⌝ }
+{
+    let mut i = 0;
+    while i < n {
+        to[i] = from[i];
+        i += 1;
+    }
+}
+
+// Loads the card: the count of trials, or a refusal and its line. Words of the lent slice are written only once the
+// whole card is accepted.
+pub fn load(w: &mut [u64], card: &[u8]) -> Loaded
+    ensures { λ r. ⌜ (r ≡ load (now (w .entry)) (now (card .entry)) .answer) × (now (w .exit) ≡ load (now (w .entry)) (now (card .entry)) .words) ⌝ }
+{
+    let mut words = long_enough();
+    let room = least(w.len(), 2568);
+    let answer = read_card(&mut words[..room], card);
+    if answer.refusal != 0 {
+        return answer;
+    }
+    let end = 8 + 5 * words[1] as usize;
+    copy(&words, end, w);
+    answer
+}
+
+// Checks the card: 0 where it is accepted, else the refusal × 65,536 + the card line.
+pub fn check(card: &[u8]) -> u64
+    ensures { λ r. ⌜ r ≡ check (now (card .entry)) ⌝ }
+{
+    let mut words = long_enough();
+    let answer = read_card(&mut words, card);
+    answer.refusal * 65536 + answer.line
+}

@@ -1,0 +1,269 @@
+/*
+ * The trial archive: scored trials under a reference point, with their
+ * hypervolume and each trial's contribution, counted in unit cells.
+ *
+ * Link with libtrial_archive.a. C99 or later, or C++.
+ *
+ * POINTS AND CELLS
+ *   A point is three whole numbers x, y, z; lower is better. A reference
+ *   number is 1 to 1,048,576, and a trial's coordinate 0 to the reference on
+ *   that axis. A point dominates the cell (i, j, k) where x <= i, y <= j and
+ *   z <= k. The box is rx * ry * rz cells, at most 2^60.
+ *     total          cells that at least one trial dominates
+ *     contribution   cells that this trial dominates and no other trial does
+ *     joint          cells that both trials dominate and no third does
+ *     gain           cells that the point dominates and no trial does
+ *   Equal trials are several trials: each of them contributes 0.
+ *
+ * THE ARCHIVE'S WORDS
+ *   An archive is a lent slice of 64-bit words, passed as pointer and length
+ *   in words. It needs TA_WORDS(capacity) = 8 + 5 * capacity of them:
+ *     word 0        count of trials
+ *     word 1        capacity, 1 to 512
+ *     words 2 to 4  rx, ry, rz
+ *     word 5        total
+ *     words 6, 7    zero
+ *     from word 8   records of five words: trial number (1 to 9,999,999),
+ *                   x, y, z, contribution; ascending by z, then y, then x,
+ *                   then trial number; the words of unused records are zero
+ *   Words from 8 + 5 * capacity on are neither read nor written.
+ *
+ * ANSWERS AND REFUSALS
+ *   Every call ends, with any words, any card and any arguments, in the
+ *   answer described or in one of the refusals below. A call that has nothing
+ *   else to answer returns the refusal number, 0 (TA_DONE) when done. A struct
+ *   has the refusal first, 0 when done. On a refusal all other fields are
+ *   zero, save a card's line, and all lent memory is as before the call.
+ *   Bytes and words behind those that a call is said to write stay unchanged.
+ *
+ * LENT MEMORY
+ *   - The slices lent to one call share no memory.
+ *   - A pointer is never null and is aligned for its type, also where the
+ *     length is 0. For a length of 0 pass the address of any object of that
+ *     type; it is neither read nor written. malloc(0) may return a null
+ *     pointer, so allocate at least one element.
+ *   - A length counts elements (words or bytes) of one object, all of which
+ *     the caller may read and, where the pointer is not const, write.
+ *   - Nobody else writes a lent slice while the call runs, nor reads one
+ *     that the call writes.
+ *
+ * THREADS, MEMORY AND STACK
+ *   The library has no global state, allocates nothing, and does no input or
+ *   output. Calls that share no lent memory may run at the same time, and so
+ *   may calls that only read the same archive.
+ *   A call needs a few tens of KiB of stack, at most TA_STACK_BYTES; see docs.
+ */
+#ifndef TRIAL_ARCHIVE_H
+#define TRIAL_ARCHIVE_H
+
+#include <stddef.h>
+#include <stdint.h>
+
+#ifdef __cplusplus
+extern "C" {
+#endif
+
+/* Limits of an archive. */
+#define TA_MAX_CAPACITY 512
+#define TA_MAX_REFERENCE 1048576
+#define TA_MAX_NUMBER 9999999
+
+/* The stack that any one call stays below, in bytes. bench/stack.c measures it. */
+#define TA_STACK_BYTES 65536
+
+/* Lengths: words of an archive, words of a reduction's log, bytes of a report. */
+#define TA_WORDS(capacity) (8 + 5 * (size_t)(capacity))
+#define TA_LOG_WORDS(count, k) (2 * ((size_t)(count) - (size_t)(k)))
+#define TA_REPORT_BYTES(count) (53 * ((size_t)(count) + 1))
+
+/* Where the words of an archive stand. */
+#define TA_COUNT 0
+#define TA_CAPACITY 1
+#define TA_REFERENCE 2
+#define TA_TOTAL 5
+#define TA_RECORDS 8
+#define TA_RECORD_WORDS 5
+
+/*
+ * The refusals. Rows are checked in this order, save that ta_start checks 4
+ * before 1. ta_start and ta_card_load check neither 2 nor 3; for them row 1 is
+ * a slice shorter than 8 + 5 * the capacity given.
+ */
+enum {
+    /* Not a refusal: the call is done. */
+    TA_DONE = 0,
+    /* Archive slice: fewer than 8 words; or, after row 2 has passed, fewer
+       than 8 + 5 * capacity. */
+    TA_SLICE_SHORT = 1,
+    /* Header: capacity, a reference word or words 6 and 7 not as above; count
+       above capacity; total above the box. */
+    TA_BAD_HEADER = 2,
+    /* Records: number or coordinate out of range, contribution above the box,
+       order broken, a number twice, an unused word not zero. */
+    TA_BAD_RECORDS = 3,
+    /* Start, card line 1: reference or capacity out of range. */
+    TA_BAD_START = 4,
+    /* Insert: trial number out of range. */
+    TA_BAD_NUMBER = 5,
+    /* Insert, gain: a coordinate above the reference. */
+    TA_ABOVE_REFERENCE = 6,
+    /* Insert: number already held. */
+    TA_NUMBER_HELD = 7,
+    /* Insert: count equals capacity. */
+    TA_FULL = 8,
+    /* Remove, joint: number not held (either one). */
+    TA_NOT_HELD = 9,
+    /* Joint: the same number twice. */
+    TA_SAME_NUMBER = 10,
+    /* Reduce: k above the count. */
+    TA_ABOVE_COUNT = 11,
+    /* Reduce: log shorter than 2 * (count - k) words. */
+    TA_LOG_SHORT = 12,
+    /* Insert, remove: a new total or contribution would fall below 0 or exceed
+       the box. Reduce: the audit's answer is no. */
+    TA_MISCOUNT = 13,
+    /* Least: no trial held. */
+    TA_NONE_HELD = 14,
+    /* Card: a line not of the form; an empty card is line 1. */
+    TA_CARD_FORM = 15,
+    /* Report: output shorter than 53 * (count + 1) bytes. */
+    TA_OUTPUT_SHORT = 16
+};
+
+/* A refusal, or 0 and one number. */
+typedef struct ta_answer {
+    uint64_t refusal;
+    uint64_t value;
+} ta_answer;
+
+/* A refusal, or 0 and the least contributor. */
+typedef struct ta_least_answer {
+    uint64_t refusal;
+    uint64_t number;
+    uint64_t contribution;
+} ta_least_answer;
+
+/* A refusal and the card line that it is for (from 1), or 0, 0 and the count
+   of trials loaded. */
+typedef struct ta_load_answer {
+    uint64_t refusal;
+    uint64_t line;
+    uint64_t count;
+} ta_load_answer;
+
+/*
+ * Writes an empty archive into the first 8 + 5 * capacity words. What they
+ * held before does not matter.
+ * Refusals, in this order: 4, then 1.
+ */
+uint64_t ta_start(uint64_t *words, size_t len,
+                  uint32_t rx, uint32_t ry, uint32_t rz, uint64_t capacity);
+
+/*
+ * Inserts a trial. Its contribution is its counted gain; the total grows by
+ * that gain, and every other contribution falls by the counted joint
+ * contribution of the two.
+ * Refusals: 1 to 3, 5, 6, 7, 8, 13.
+ */
+uint64_t ta_insert(uint64_t *words, size_t len, uint64_t number,
+                   uint32_t x, uint32_t y, uint32_t z);
+
+/*
+ * Removes a trial. The total falls by its counted contribution, and every
+ * other contribution rises by the counted joint contribution of the two. The
+ * number may be used again.
+ * Refusals: 1 to 3, 9, 13.
+ */
+uint64_t ta_remove(uint64_t *words, size_t len, uint64_t number);
+
+/*
+ * The trial whose kept contribution is least; among equals the highest trial
+ * number.
+ * Refusals: 1 to 3, 14.
+ */
+ta_least_answer ta_least(const uint64_t *words, size_t len);
+
+/*
+ * Drops the least contributor by ta_least's rule until k trials are held. For
+ * each drop the log receives two words: the number, and its contribution at
+ * that moment. The value is the count of drops; log words behind the 2 *
+ * drops written stay unchanged. k equal to the count drops none, and k = 0 is
+ * allowed. The log needs TA_LOG_WORDS(count, k) words.
+ * Refusals: 1 to 3, 11, 12, 13 (also where k equals the count).
+ */
+ta_answer ta_reduce(uint64_t *words, size_t len, uint64_t k,
+                    uint64_t *log, size_t log_len);
+
+/*
+ * The counted joint contribution of two trials held.
+ * Refusals: 1 to 3, 9, 10.
+ */
+ta_answer ta_joint(const uint64_t *words, size_t len,
+                   uint64_t first, uint64_t second);
+
+/*
+ * The counted gain of a point, equal to a held trial or not.
+ * Refusals: 1 to 3, 6.
+ */
+ta_answer ta_gain(const uint64_t *words, size_t len,
+                  uint32_t x, uint32_t y, uint32_t z);
+
+/*
+ * The kept total in millionths of the box, rounded down.
+ * Refusals: 1 to 3.
+ */
+ta_answer ta_share(const uint64_t *words, size_t len);
+
+/*
+ * 1 (yes) exactly when the kept total and all kept contributions equal their
+ * counts, else 0 (no).
+ * Refusals: 1 to 3.
+ */
+ta_answer ta_audit(const uint64_t *words, size_t len);
+
+/*
+ * Judges a card without an archive: 0 for an accepted card, else refusal
+ * number * 65,536 + card line, the lines counted from 1. It judges as
+ * ta_card_load does with a slice that is long enough, so row 1 is not given.
+ *
+ * A card is bytes. Each line has four fields of eight bytes, then byte 10; the
+ * last line too. A field is a decimal number right-justified behind spaces,
+ * with at least one digit and no leading zero except in 0 itself. Line 1:
+ * capacity, rx, ry, rz. Each further line: trial number, x, y, z, inserted in
+ * turn into a fresh archive.
+ * Refusals of a line, the lines judged in turn: 15, then on line 1 row 4, on
+ * others rows 5 to 8.
+ */
+uint64_t ta_card_check(const uint8_t *card, size_t len);
+
+/* The two parts of ta_card_check's answer. */
+#define TA_CARD_REFUSAL(answer) ((uint64_t)(answer) / 65536)
+#define TA_CARD_LINE(answer) ((uint64_t)(answer) % 65536)
+
+/*
+ * Loads a card into the first 8 + 5 * capacity words, as its start and its
+ * insertions in turn would. What they held before does not matter. A card
+ * refused at any line leaves the slice as before the call.
+ * Refusals of a line, the lines judged in turn: 15, then on line 1 rows 4 and
+ * 1, on others rows 5 to 8.
+ */
+ta_load_answer ta_card_load(uint64_t *words, size_t len,
+                            const uint8_t *card, size_t card_len);
+
+/*
+ * Writes the report: one line of count, rx, ry, rz (eight bytes each) and the
+ * kept total (twenty bytes), then for each record, in archive order, number,
+ * x, y, z (eight each) and kept contribution (twenty); numbers right-justified
+ * behind spaces, every line ended by byte 10. The value is the length in
+ * bytes, TA_REPORT_BYTES(count); output bytes behind it stay unchanged. No
+ * zero byte is appended.
+ * Refusals: 1 to 3, 16.
+ */
+ta_answer ta_report(const uint64_t *words, size_t len,
+                    uint8_t *out, size_t out_len);
+
+#ifdef __cplusplus
+}
+#endif
+
+#endif

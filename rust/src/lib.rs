@@ -1,0 +1,50 @@
+//! The trial archive: scored trials under a reference point, with their hypervolume and each
+//! trial's contribution, counted in unit cells.
+//!
+//! A point is three whole numbers x, y, z; lower is better. It dominates the cell (i, j, k) where
+//! x ≤ i, y ≤ j and z ≤ k. The *total* is the number of cells that some trial dominates, a
+//! *contribution* the number that this trial dominates and no other does. Equal trials are several
+//! trials.
+//!
+//! ```
+//! use trial_archive::{Archive, Refusal};
+//!
+//! # fn main() -> Result<(), Refusal> {
+//! let mut archive = Archive::start([4, 4, 4], 8)?;
+//! archive.insert(1, [1, 2, 2])?;
+//! archive.insert(2, [2, 1, 2])?;
+//! archive.insert(3, [2, 2, 1])?;
+//! assert_eq!(archive.total(), 20);
+//! assert_eq!(archive.gain([1, 1, 1])?, 7);
+//! assert_eq!(archive.insert(3, [0, 0, 0]), Err(Refusal::NumberHeld));
+//!
+//! let dropped = archive.reduce(2)?;
+//! assert_eq!((dropped[0].number, dropped[0].contribution), (3, 4));
+//! # Ok(())
+//! # }
+//! ```
+//!
+//! [`Archive`] owns its memory. The functions of [`words`] work on memory that the caller lends,
+//! and [`sys`] is the bare C interface.
+//!
+//! # The archive's words
+//!
+//! Word 0: count of trials. 1: capacity, 1 to 512. 2, 3, 4: the reference, each number 1 to
+//! 1,048,576. 5: total. 6 and 7: zero. From word 8 come records of five words: trial number (1 to
+//! 9,999,999), x, y, z, contribution, in ascending order of z, then y, then x, then trial number.
+//! Words of unused records are zero.
+
+mod archive;
+mod refusal;
+pub mod sys;
+pub mod words;
+
+pub use archive::{Archive, Contribution, Trial};
+pub use refusal::{CardRefusal, Refusal};
+
+/// Judges a card without an archive, as [`Archive::load_card`] would.
+pub fn check_card(card: &[u8]) -> Result<(), CardRefusal> {
+    // SAFETY: pointer and length are those of one slice borrowed for the call.
+    let packed = unsafe { sys::ta_card_check(card.as_ptr(), card.len()) };
+    CardRefusal::check(packed / 65_536, packed % 65_536)
+}

@@ -1,0 +1,136 @@
+//! The refusals of the library, by the rows of its table.
+
+use std::error::Error;
+use std::fmt;
+
+/// Why a call was turned down. All lent memory is then as before the call.
+#[derive(Clone, Copy, Debug, PartialEq, Eq, PartialOrd, Ord, Hash)]
+#[non_exhaustive]
+#[repr(u8)]
+pub enum Refusal {
+    /// Archive slice: fewer than 8 words, or fewer than 8 + 5 × capacity.
+    SliceShort = 1,
+    /// Header: capacity, a reference word or words 6 and 7 not as the layout says; count above
+    /// capacity; total above the box.
+    BadHeader = 2,
+    /// Records: number or coordinate out of range, contribution above the box, order broken, a
+    /// number twice, an unused word not zero.
+    BadRecords = 3,
+    /// Start, card line 1: reference or capacity out of range.
+    BadStart = 4,
+    /// Insert: trial number out of range.
+    BadNumber = 5,
+    /// Insert, gain: a coordinate above the reference.
+    AboveReference = 6,
+    /// Insert: number already held.
+    NumberHeld = 7,
+    /// Insert: count equals capacity.
+    Full = 8,
+    /// Remove, joint: number not held (either one).
+    NotHeld = 9,
+    /// Joint: the same number twice.
+    SameNumber = 10,
+    /// Reduce: k above the count.
+    AboveCount = 11,
+    /// Reduce: log shorter than 2 × (count − k) words.
+    LogShort = 12,
+    /// Insert, remove: a new total or contribution would fall below 0 or exceed the box. Reduce:
+    /// the audit's answer is no.
+    Miscount = 13,
+    /// Least: no trial held.
+    NoneHeld = 14,
+    /// Card: a line not of the form; an empty card is line 1.
+    CardForm = 15,
+    /// Report: output shorter than 53 × (count + 1) bytes.
+    OutputShort = 16,
+}
+
+impl Refusal {
+    /// Every refusal, in the order of the table.
+    pub const ALL: [Refusal; 16] = [
+        Refusal::SliceShort,
+        Refusal::BadHeader,
+        Refusal::BadRecords,
+        Refusal::BadStart,
+        Refusal::BadNumber,
+        Refusal::AboveReference,
+        Refusal::NumberHeld,
+        Refusal::Full,
+        Refusal::NotHeld,
+        Refusal::SameNumber,
+        Refusal::AboveCount,
+        Refusal::LogShort,
+        Refusal::Miscount,
+        Refusal::NoneHeld,
+        Refusal::CardForm,
+        Refusal::OutputShort,
+    ];
+
+    /// The number of its row.
+    pub fn number(self) -> u64 {
+        self as u64
+    }
+
+    /// The refusal of that row, if there is one.
+    pub fn from_number(number: u64) -> Option<Refusal> {
+        Refusal::ALL.into_iter().find(|r| r.number() == number)
+    }
+
+    /// A call's refusal number as a result; 0 is done.
+    pub(crate) fn check(number: u64) -> Result<(), Refusal> {
+        match number {
+            0 => Ok(()),
+            n => Err(Refusal::from_number(n).expect("the library answers a row of the table")),
+        }
+    }
+}
+
+impl fmt::Display for Refusal {
+    fn fmt(&self, f: &mut fmt::Formatter<'_>) -> fmt::Result {
+        f.write_str(match self {
+            Refusal::SliceShort => "archive slice too short",
+            Refusal::BadHeader => "archive header not valid",
+            Refusal::BadRecords => "archive records not valid",
+            Refusal::BadStart => "reference or capacity out of range",
+            Refusal::BadNumber => "trial number out of range",
+            Refusal::AboveReference => "a coordinate above the reference",
+            Refusal::NumberHeld => "trial number already held",
+            Refusal::Full => "archive full",
+            Refusal::NotHeld => "trial number not held",
+            Refusal::SameNumber => "the same trial number twice",
+            Refusal::AboveCount => "k above the count of trials",
+            Refusal::LogShort => "log too short",
+            Refusal::Miscount => "kept total or contributions do not fit the trials",
+            Refusal::NoneHeld => "no trial held",
+            Refusal::CardForm => "card line not of the form",
+            Refusal::OutputShort => "output too short",
+        })
+    }
+}
+
+impl Error for Refusal {}
+
+/// Why a card was turned down, and at which of its lines (from 1).
+#[derive(Clone, Copy, Debug, PartialEq, Eq, Hash)]
+pub struct CardRefusal {
+    pub refusal: Refusal,
+    pub line: u64,
+}
+
+impl CardRefusal {
+    pub(crate) fn check(number: u64, line: u64) -> Result<(), CardRefusal> {
+        Refusal::check(number).map_err(|refusal| CardRefusal { refusal, line })
+    }
+}
+
+impl fmt::Display for CardRefusal {
+    fn fmt(&self, f: &mut fmt::Formatter<'_>) -> fmt::Result {
+        write!(f, "card line {}: {}", self.line, self.refusal)
+    }
+}
+
+impl Error for CardRefusal {
+    fn source(&self) -> Option<&(dyn Error + 'static)> {
+        Some(&self.refusal)
+    }
+}

@@ -1,0 +1,62 @@
+//! The library's C interface as `include/trial_archive.h` declares it, in the same order.
+//!
+//! A slice is a pointer and a length in elements. The pointer is never null and is aligned, also
+//! where the length is 0, which is what Rust's own slices give. The slices lent to one call share
+//! no memory.
+
+/// A refusal, or 0 and one number.
+#[repr(C)]
+#[derive(Clone, Copy, Debug, PartialEq, Eq)]
+pub struct Answer {
+    pub refusal: u64,
+    pub value: u64,
+}
+
+/// A refusal, or 0 and the least contributor.
+#[repr(C)]
+#[derive(Clone, Copy, Debug, PartialEq, Eq)]
+pub struct LeastAnswer {
+    pub refusal: u64,
+    pub number: u64,
+    pub contribution: u64,
+}
+
+/// A refusal and its card line, or 0, 0 and the count of trials loaded.
+#[repr(C)]
+#[derive(Clone, Copy, Debug, PartialEq, Eq)]
+pub struct LoadAnswer {
+    pub refusal: u64,
+    pub line: u64,
+    pub count: u64,
+}
+
+extern "C" {
+    pub fn ta_start(words: *mut u64, len: usize, rx: u32, ry: u32, rz: u32, capacity: u64) -> u64;
+
+    pub fn ta_insert(words: *mut u64, len: usize, number: u64, x: u32, y: u32, z: u32) -> u64;
+
+    pub fn ta_remove(words: *mut u64, len: usize, number: u64) -> u64;
+
+    pub fn ta_least(words: *const u64, len: usize) -> LeastAnswer;
+
+    pub fn ta_reduce(words: *mut u64, len: usize, k: u64, log: *mut u64, log_len: usize) -> Answer;
+
+    pub fn ta_joint(words: *const u64, len: usize, first: u64, second: u64) -> Answer;
+
+    pub fn ta_gain(words: *const u64, len: usize, x: u32, y: u32, z: u32) -> Answer;
+
+    pub fn ta_share(words: *const u64, len: usize) -> Answer;
+
+    pub fn ta_audit(words: *const u64, len: usize) -> Answer;
+
+    pub fn ta_card_check(card: *const u8, len: usize) -> u64;
+
+    pub fn ta_card_load(
+        words: *mut u64,
+        len: usize,
+        card: *const u8,
+        card_len: usize,
+    ) -> LoadAnswer;
+
+    pub fn ta_report(words: *const u64, len: usize, out: *mut u8, out_len: usize) -> Answer;
+}

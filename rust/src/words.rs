@@ -1,0 +1,109 @@
+//! The calls on lent memory: an archive is a slice of words that the caller owns.
+//!
+//! The slice may hold anything and may be longer than the archive; words from
+//! 8 + 5 × capacity on are neither read nor written. The crate's documentation has the layout.
+
+use crate::refusal::{CardRefusal, Refusal};
+use crate::sys;
+use crate::Contribution;
+
+/// The words that an archive of this capacity takes: 8 + 5 × capacity.
+pub const fn needed(capacity: usize) -> usize {
+    8 + 5 * capacity
+}
+
+/// The words that the log of a reduction from `count` to `k` trials takes: 2 × (count − k).
+pub const fn log_needed(count: usize, k: usize) -> usize {
+    2 * count.saturating_sub(k)
+}
+
+/// The bytes that the report on `count` trials takes: 53 × (count + 1).
+pub const fn report_needed(count: usize) -> usize {
+    53 * (count + 1)
+}
+
+/// Writes an empty archive; what the words held before does not matter.
+pub fn start(words: &mut [u64], reference: [u32; 3], capacity: u64) -> Result<(), Refusal> {
+    let [rx, ry, rz] = reference;
+    // SAFETY: pointer and length are those of one slice borrowed for the call.
+    let number = unsafe { sys::ta_start(words.as_mut_ptr(), words.len(), rx, ry, rz, capacity) };
+    Refusal::check(number)
+}
+
+/// Inserts a trial.
+pub fn insert(words: &mut [u64], number: u64, point: [u32; 3]) -> Result<(), Refusal> {
+    let [x, y, z] = point;
+    // SAFETY: pointer and length are those of one slice borrowed for the call.
+    Refusal::check(unsafe { sys::ta_insert(words.as_mut_ptr(), words.len(), number, x, y, z) })
+}
+
+/// Removes a trial.
+pub fn remove(words: &mut [u64], number: u64) -> Result<(), Refusal> {
+    // SAFETY: pointer and length are those of one slice borrowed for the call.
+    Refusal::check(unsafe { sys::ta_remove(words.as_mut_ptr(), words.len(), number) })
+}
+
+/// The trial whose kept contribution is least; among equals the highest trial number.
+pub fn least(words: &[u64]) -> Result<Contribution, Refusal> {
+    // SAFETY: pointer and length are those of one slice borrowed for the call.
+    let answer = unsafe { sys::ta_least(words.as_ptr(), words.len()) };
+    Refusal::check(answer.refusal)?;
+    Ok(Contribution { number: answer.number, contribution: answer.contribution })
+}
+
+/// Drops the least contributor until `k` trials are held and answers the count of drops; each
+/// drop puts its number and its contribution at that moment into the log.
+pub fn reduce(words: &mut [u64], k: u64, log: &mut [u64]) -> Result<u64, Refusal> {
+    // SAFETY: pointers and lengths are those of two slices borrowed mutably for the call, which
+    // therefore share no memory.
+    value(unsafe {
+        sys::ta_reduce(words.as_mut_ptr(), words.len(), k, log.as_mut_ptr(), log.len())
+    })
+}
+
+/// The cells that both trials dominate and no third does.
+pub fn joint(words: &[u64], first: u64, second: u64) -> Result<u64, Refusal> {
+    // SAFETY: pointer and length are those of one slice borrowed for the call.
+    value(unsafe { sys::ta_joint(words.as_ptr(), words.len(), first, second) })
+}
+
+/// The cells that the point dominates and no trial does.
+pub fn gain(words: &[u64], point: [u32; 3]) -> Result<u64, Refusal> {
+    let [x, y, z] = point;
+    // SAFETY: pointer and length are those of one slice borrowed for the call.
+    value(unsafe { sys::ta_gain(words.as_ptr(), words.len(), x, y, z) })
+}
+
+/// The kept total in millionths of the box, rounded down.
+pub fn share(words: &[u64]) -> Result<u64, Refusal> {
+    // SAFETY: pointer and length are those of one slice borrowed for the call.
+    value(unsafe { sys::ta_share(words.as_ptr(), words.len()) })
+}
+
+/// Whether the kept total and all kept contributions equal their counts.
+pub fn audit(words: &[u64]) -> Result<bool, Refusal> {
+    // SAFETY: pointer and length are those of one slice borrowed for the call.
+    value(unsafe { sys::ta_audit(words.as_ptr(), words.len()) }).map(|yes| yes == 1)
+}
+
+/// Loads a card as its start and insertions would, and answers the count of trials loaded.
+pub fn load_card(words: &mut [u64], card: &[u8]) -> Result<u64, CardRefusal> {
+    // SAFETY: pointers and lengths are those of two slices borrowed for the call, the first
+    // mutably, which therefore share no memory.
+    let answer =
+        unsafe { sys::ta_card_load(words.as_mut_ptr(), words.len(), card.as_ptr(), card.len()) };
+    CardRefusal::check(answer.refusal, answer.line)?;
+    Ok(answer.count)
+}
+
+/// Writes the report and answers its length in bytes.
+pub fn report(words: &[u64], out: &mut [u8]) -> Result<u64, Refusal> {
+    // SAFETY: pointers and lengths are those of two slices borrowed for the call, the second
+    // mutably, which therefore share no memory.
+    value(unsafe { sys::ta_report(words.as_ptr(), words.len(), out.as_mut_ptr(), out.len()) })
+}
+
+fn value(answer: sys::Answer) -> Result<u64, Refusal> {
+    Refusal::check(answer.refusal)?;
+    Ok(answer.value)
+}

@@ -1,0 +1,409 @@
+//! Every condition of the table at its boundary, from both sides. The refusal numbers here are
+//! the document's, not the reference's.
+
+use crate::lend::{compare, expect, Call};
+use crate::reference::book::Book;
+use crate::reference::{Point, MAX_NUMBER, MAX_REFERENCE};
+
+/// The trials of document 01's card.
+const TRIALS: [(u64, Point); 4] = [(1, [1, 2, 2]), (2, [2, 1, 2]), (3, [2, 2, 1]), (4, [1, 1, 3])];
+
+fn words_of(reference: Point, capacity: u64, trials: &[(u64, Point)]) -> Vec<u64> {
+    let mut book = Book::start(reference, capacity);
+    for &(number, point) in trials {
+        assert_eq!(book.insert(usize::MAX, number, point), 0);
+    }
+    book.fresh()
+}
+
+/// The archive of document 01's card, and three words behind it. In archive order the trials are
+/// 3, 2, 1, 4, with records from words 8, 13, 18 and 23; words 28 to 47 are unused.
+fn card_words() -> Vec<u64> {
+    let mut words = words_of([4, 4, 4], 8, &TRIALS);
+    words.extend([77, 78, 79]);
+    words
+}
+
+/// One call of each kind that reads an archive, all of them done on document 01's card.
+fn calls() -> Vec<Call> {
+    vec![
+        Call::Insert { number: 5, point: [0, 0, 0] },
+        Call::Remove { number: 4 },
+        Call::Least,
+        Call::Reduce { k: 2, log: vec![91, 92, 93, 94, 95] },
+        Call::Joint { first: 1, second: 2 },
+        Call::Gain { point: [0, 3, 0] },
+        Call::Share,
+        Call::Audit,
+        Call::Report { out: vec![88; 53 * 5 + 2] },
+    ]
+}
+
+/// Every call is refused by this row.
+fn all_refused(words: &[u64], row: u64) {
+    for call in calls() {
+        expect(&call, words, row);
+    }
+}
+
+/// The words pass rows 1 to 3.
+fn passes(words: &[u64]) {
+    expect(&Call::Share, words, 0);
+    for call in calls() {
+        compare(&call, words);
+    }
+}
+
+fn with(edits: &[(usize, u64)]) -> Vec<u64> {
+    let mut words = card_words();
+    for &(at, value) in edits {
+        words[at] = value;
+    }
+    words
+}
+
+#[test]
+fn lengths_of_the_slice() {
+    let words = card_words();
+    for length in 0..48 {
+        all_refused(&words[..length], 1);
+    }
+    for length in 48..=51 {
+        for call in calls() {
+            expect(&call, &words[..length], 0);
+        }
+    }
+}
+
+#[test]
+fn row_1_stands_around_row_2_and_before_row_3() {
+    let header = with(&[(6, 1)]);
+    let records = with(&[(8, 0)]);
+    for length in 0..=51 {
+        all_refused(&header[..length], if length < 8 { 1 } else { 2 });
+        all_refused(&records[..length], if length < 48 { 1 } else { 3 });
+    }
+}
+
+#[test]
+fn row_2_counts_and_capacities() {
+    for count in [9, 512, 1 << 32, 4 | 1 << 32, 4 | 1 << 63, u64::MAX] {
+        all_refused(&with(&[(0, count)]), 2);
+    }
+    // Fewer trials than there are records, or more.
+    for count in [0, 3, 5, 8] {
+        all_refused(&with(&[(0, count)]), 3);
+    }
+    for capacity in
+        [0, 1, 3, 513, 8 | 1 << 32, 8 | 1 << 63, u64::MAX, u64::MAX / 5, u64::MAX / 5 - 1]
+    {
+        all_refused(&with(&[(1, capacity)]), 2);
+    }
+    for capacity in [9, 512] {
+        all_refused(&with(&[(1, capacity)]), 1);
+    }
+    for capacity in [4, 5, 7] {
+        passes(&with(&[(1, capacity)]));
+    }
+}
+
+#[test]
+fn row_2_references_and_totals() {
+    for axis in 0..3 {
+        for reference in [0, MAX_REFERENCE + 1, 4 | 1 << 32, 4 | 1 << 63, u64::MAX] {
+            all_refused(&with(&[(2 + axis, reference)]), 2);
+        }
+        passes(&with(&[(2 + axis, MAX_REFERENCE)]));
+        // 1 × 4 × 4 cells are fewer than the total; with a total of 16 a coordinate is too large.
+        all_refused(&with(&[(2 + axis, 1)]), 2);
+        all_refused(&with(&[(2 + axis, 1), (5, 16)]), 3);
+        all_refused(&with(&[(2 + axis, 1), (5, 17)]), 2);
+    }
+    for total in [0, 20, 22, 63, 64] {
+        passes(&with(&[(5, total)]));
+    }
+    for total in [65, 21 | 1 << 32, 1 << 63, u64::MAX] {
+        all_refused(&with(&[(5, total)]), 2);
+    }
+    let largest = [(2, MAX_REFERENCE), (3, MAX_REFERENCE), (4, MAX_REFERENCE)];
+    for (total, row) in [(1 << 60, 0), ((1 << 60) + 1, 2)] {
+        let mut edits = largest.to_vec();
+        edits.push((5, total));
+        expect(&Call::Share, &with(&edits), row);
+    }
+    for word in [6, 7] {
+        for value in [1, 1 << 32, 1 << 63, u64::MAX] {
+            all_refused(&with(&[(word, value)]), 2);
+        }
+    }
+}
+
+#[test]
+fn row_3_numbers() {
+    for record in [8, 13, 18, 23] {
+        for number in [0, MAX_NUMBER + 1, 1 << 32, 3 | 1 << 32, 3 | 1 << 63, u64::MAX] {
+            all_refused(&with(&[(record, number)]), 3);
+        }
+        for number in [9, MAX_NUMBER] {
+            passes(&with(&[(record, number)]));
+        }
+        for other in [8, 13, 18, 23] {
+            let number = card_words()[other];
+            let edited = with(&[(record, number)]);
+            if other == record {
+                passes(&edited);
+            } else {
+                all_refused(&edited, 3);
+            }
+            // Numbers that agree in their low 16 bits are not the same.
+            passes(&with(&[(record, number + 65_536)]));
+            passes(&with(&[(record, number + 131_072), (other, number + 65_536)]));
+        }
+    }
+}
+
+#[test]
+fn row_3_coordinates_and_contributions() {
+    let last = 23;
+    for axis in 0..3 {
+        passes(&with(&[(last + 1 + axis, 4)]));
+        for coordinate in [5, 1 | 1 << 32, 3 | 1 << 32, 3 | 1 << 63, u64::MAX] {
+            all_refused(&with(&[(last + 1 + axis, coordinate)]), 3);
+        }
+    }
+    for record in [8, 13, 18, 23] {
+        for contribution in [0, 3, 63, 64] {
+            passes(&with(&[(record + 4, contribution)]));
+        }
+        for contribution in [65, 1 | 1 << 32, 1 << 63, u64::MAX] {
+            all_refused(&with(&[(record + 4, contribution)]), 3);
+        }
+    }
+}
+
+#[test]
+fn row_3_order() {
+    let pair = |first: [u64; 4], second: [u64; 4]| {
+        let mut words = card_words();
+        words[13..17].copy_from_slice(&first);
+        words[18..22].copy_from_slice(&second);
+        words
+    };
+    // Records 2 and 3, between z = 1 and z = 3: in order by one place, then out of it.
+    let ordered = [
+        ([9, 4, 4, 1], [8, 0, 2, 2]),
+        ([9, 4, 1, 2], [8, 0, 2, 2]),
+        ([9, 1, 2, 2], [8, 2, 2, 2]),
+        ([8, 2, 2, 2], [9, 2, 2, 2]),
+    ];
+    for (first, second) in ordered {
+        passes(&pair(first, second));
+        let swapped = pair(second, first);
+        all_refused(&swapped, 3);
+    }
+    for z in [0, 1] {
+        passes(&with(&[(11, z)]));
+    }
+    // The first record behind the second, the last before the third.
+    all_refused(&with(&[(11, 3)]), 3);
+    all_refused(&with(&[(26, 1)]), 3);
+}
+
+#[test]
+fn row_3_unused_words() {
+    for at in 28..48 {
+        for value in [1, 1 << 32, 1 << 63] {
+            all_refused(&with(&[(at, value)]), 3);
+        }
+    }
+    for at in 48..51 {
+        passes(&with(&[(at, 0)]));
+    }
+}
+
+#[test]
+fn rows_of_start() {
+    let anything = |length: usize| vec![0x1234_5678_9abc_def0; length];
+    for capacity in [1, 2, 511, 512] {
+        let needed = 8 + 5 * capacity as usize;
+        let start = Call::Start { reference: [4, 5, 6], capacity };
+        for length in [0, 7, 8, needed - 1] {
+            expect(&start, &anything(length), 1);
+        }
+        for length in [needed, needed + 1, needed + 9] {
+            expect(&start, &anything(length), 0);
+        }
+    }
+    for capacity in [0, 513, 1 << 32 | 1, u64::MAX / 5 - 1, u64::MAX / 5, u64::MAX] {
+        for length in [0, 8, 13, 3_000] {
+            expect(&Call::Start { reference: [4, 4, 4], capacity }, &anything(length), 4);
+        }
+    }
+    for axis in 0..3 {
+        for (number, row) in [(0, 4), (1, 0), (1_048_576, 0), (1_048_577, 4), (u32::MAX, 4)] {
+            let mut reference = [4; 3];
+            reference[axis] = number;
+            let start = Call::Start { reference, capacity: 1 };
+            expect(&start, &anything(13), row);
+            expect(&start, &anything(12), if row == 0 { 1 } else { row });
+        }
+    }
+}
+
+#[test]
+fn rows_of_insert_and_gain() {
+    let room = card_words();
+    let full = words_of([4, 4, 4], 4, &TRIALS);
+    let insert = |number, point| Call::Insert { number, point };
+    for number in [0, MAX_NUMBER + 1, 5 | 1 << 32, u64::MAX] {
+        expect(&insert(number, [5, 5, 5]), &full, 5);
+        expect(&insert(number, [4, 4, 4]), &room, 5);
+    }
+    for axis in 0..3 {
+        for coordinate in [5, 1_048_576, 1_048_577, u32::MAX] {
+            let mut point = [4; 3];
+            point[axis] = coordinate;
+            expect(&insert(1, point), &full, 6);
+            expect(&insert(5, point), &room, 6);
+            expect(&Call::Gain { point }, &full, 6);
+        }
+    }
+    for number in 1..=4 {
+        expect(&insert(number, [4, 4, 4]), &full, 7);
+        expect(&insert(number, [0, 0, 0]), &room, 7);
+    }
+    for number in [5, MAX_NUMBER, 65_537] {
+        expect(&insert(number, [4, 4, 4]), &full, 8);
+        expect(&insert(number, [4, 4, 4]), &room, 0);
+        expect(&insert(number, [0, 0, 0]), &room, 0);
+    }
+}
+
+#[test]
+fn rows_of_remove_and_joint() {
+    let words = card_words();
+    for number in [0, 5, MAX_NUMBER, MAX_NUMBER + 1, 1 | 1 << 32, 65_537, u64::MAX] {
+        expect(&Call::Remove { number }, &words, 9);
+        expect(&Call::Joint { first: number, second: 1 }, &words, 9);
+        expect(&Call::Joint { first: 1, second: number }, &words, 9);
+        expect(&Call::Joint { first: number, second: number }, &words, 9);
+    }
+    for first in 1..=4 {
+        expect(&Call::Remove { number: first }, &words, 0);
+        for second in 1..=4 {
+            let row = if first == second { 10 } else { 0 };
+            expect(&Call::Joint { first, second }, &words, row);
+        }
+    }
+}
+
+#[test]
+fn rows_of_least_and_report() {
+    expect(&Call::Least, &words_of([4, 4, 4], 1, &[]), 14);
+    expect(&Call::Least, &words_of([4, 4, 4], 1, &TRIALS[..1]), 0);
+    for count in 0..=4 {
+        let words = words_of([4, 4, 4], 4, &TRIALS[..count]);
+        let exact = 53 * (count + 1);
+        for length in 0..exact + 4 {
+            let row = if length < exact { 16 } else { 0 };
+            expect(&Call::Report { out: vec![200; length] }, &words, row);
+        }
+    }
+}
+
+#[test]
+fn rows_of_reduce() {
+    let counted = card_words();
+    let foreign = with(&[(5, 22)]);
+    for k in [0, 1, 2, 3, 4, 5, 6, 1 << 32, 1 << 63, u64::MAX] {
+        for length in 0..=10 {
+            let reduce = Call::Reduce { k, log: vec![99; length] };
+            let row = if k > 4 {
+                11
+            } else if (length as u64) < 2 * (4 - k) {
+                12
+            } else {
+                0
+            };
+            expect(&reduce, &counted, row);
+            expect(&reduce, &foreign, if row == 0 { 13 } else { row });
+        }
+    }
+    for at in [12, 17, 22, 27] {
+        let wrong = with(&[(at, card_words()[at] + 1)]);
+        expect(&Call::Reduce { k: 4, log: Vec::new() }, &wrong, 13);
+    }
+}
+
+#[test]
+fn row_13_of_insert_and_remove() {
+    let cells = 64;
+    // A total that grows by 64 from 0, and from 1.
+    let mut empty = words_of([4, 4, 4], 2, &[]);
+    let whole = Call::Insert { number: 1, point: [0, 0, 0] };
+    for (total, row) in [(0, 0), (1, 13), (cells, 13)] {
+        empty[5] = total;
+        expect(&whole, &empty, row);
+    }
+    empty[5] = cells;
+    expect(&Call::Insert { number: 1, point: [4, 0, 0] }, &empty, 0);
+
+    // A contribution that falls by 8, to 0 and below.
+    let mut one = words_of([4, 4, 4], 2, &[(1, [1, 1, 1])]);
+    for (contribution, row) in [(27, 0), (8, 0), (7, 13), (0, 13), (cells, 0)] {
+        one[12] = contribution;
+        expect(&Call::Insert { number: 2, point: [2, 2, 2] }, &one, row);
+    }
+
+    // A total that falls by 27, whatever contribution is kept.
+    for contribution in [0, 27, cells] {
+        one[12] = contribution;
+        for (total, row) in [(27, 0), (26, 13), (0, 13), (cells, 0)] {
+            one[5] = total;
+            expect(&Call::Remove { number: 1 }, &one, row);
+        }
+    }
+
+    // A contribution that rises by 8, to the box and above it.
+    let mut two = words_of([4, 4, 4], 2, &[(1, [1, 1, 1]), (2, [2, 2, 2])]);
+    for (contribution, row) in [(19, 0), (56, 0), (57, 13), (cells, 13)] {
+        two[12] = contribution;
+        expect(&Call::Remove { number: 2 }, &two, row);
+    }
+}
+
+/// 512 trials on a coarse grid; many numbers agree in their low 16 bits.
+fn full_words() -> Vec<u64> {
+    let trials: Vec<(u64, Point)> = (0..512)
+        .map(|i| (1 + 65_536 * (i % 150) + i / 150, [i % 7, i * i % 11, i * 5 % 13]))
+        .collect();
+    words_of([7, 11, 13], 512, &trials)
+}
+
+#[test]
+fn a_full_archive_of_512() {
+    let words = full_words();
+    for call in calls() {
+        compare(&call, &words);
+    }
+    expect(&Call::Insert { number: MAX_NUMBER, point: [0, 0, 0] }, &words, 8);
+    expect(&Call::Audit, &words, 0);
+    let first = words[8];
+    for record in [1, 256, 511] {
+        let mut twice = words.clone();
+        twice[8 + 5 * record] = first;
+        all_refused(&twice, 3);
+        // The last of equal trials may have a higher number.
+        let point = |i: usize| words.get(9 + 5 * i..12 + 5 * i);
+        let last = (record..512).find(|&i| point(i) != point(i + 1)).expect("a last one");
+        let mut congruent = words.clone();
+        congruent[8 + 5 * last] = first % 65_536 + 151 * 65_536;
+        passes(&congruent);
+    }
+    let mut last = words.clone();
+    last[8 + 5 * 511 + 3] = 14;
+    all_refused(&last, 3);
+    last[8 + 5 * 511 + 3] = 13;
+    passes(&last);
+    all_refused(&words[..words.len() - 1], 1);
+}

@@ -1,0 +1,276 @@
+//! One call, made three times on equal memory: by the reference, by the bare C interface on
+//! fenced memory, and by the safe functions. Answers and all lent memory must agree.
+
+use crate::reference::{calls, cards};
+use std::collections::BTreeMap;
+use trial_archive::{check_card, sys, words, CardRefusal, Refusal};
+
+#[derive(Clone, Debug)]
+pub enum Call {
+    Start { reference: [u32; 3], capacity: u64 },
+    Insert { number: u64, point: [u32; 3] },
+    Remove { number: u64 },
+    Least,
+    Reduce { k: u64, log: Vec<u64> },
+    Joint { first: u64, second: u64 },
+    Gain { point: [u32; 3] },
+    Share,
+    Audit,
+    Check { card: Vec<u8> },
+    Load { card: Vec<u8> },
+    Report { out: Vec<u8> },
+}
+
+impl Call {
+    pub fn name(&self) -> &'static str {
+        match self {
+            Call::Start { .. } => "start",
+            Call::Insert { .. } => "insert",
+            Call::Remove { .. } => "remove",
+            Call::Least => "least",
+            Call::Reduce { .. } => "reduce",
+            Call::Joint { .. } => "joint",
+            Call::Gain { .. } => "gain",
+            Call::Share => "share",
+            Call::Audit => "audit",
+            Call::Check { .. } => "check",
+            Call::Load { .. } => "load",
+            Call::Report { .. } => "report",
+        }
+    }
+}
+
+/// The answer as the C struct's fields, the refusal first, and what lent memory holds.
+#[derive(Clone, Debug, PartialEq, Eq)]
+pub struct Outcome {
+    pub answer: Vec<u64>,
+    pub words: Vec<u64>,
+    pub log: Vec<u64>,
+    pub out: Vec<u8>,
+}
+
+impl Outcome {
+    /// The refusal number, 0 where the call is done.
+    pub fn refusal(&self) -> u64 {
+        self.answer[0]
+    }
+}
+
+type Way = fn(&Call, &[u64]) -> Outcome;
+
+/// Makes the call all three ways and compares.
+pub fn compare(call: &Call, lent: &[u64]) -> Outcome {
+    let expected = by_reference(call, lent);
+    let ways: [(&str, Way); 2] = [("C interface", by_c), ("safe functions", by_safe)];
+    for (way, run) in ways {
+        let found = run(call, lent);
+        assert!(
+            found == expected,
+            "{way}\ncall: {call:?}\nwords lent: {lent:?}\nexpected: {expected:?}\nfound: {found:?}"
+        );
+    }
+    expected
+}
+
+/// Compares, and asserts the refusal number (0: done) that the document itself gives.
+pub fn expect(call: &Call, lent: &[u64], refusal: u64) -> Outcome {
+    let outcome = compare(call, lent);
+    assert_eq!(outcome.refusal(), refusal, "call: {call:?}\nwords lent: {lent:?}");
+    outcome
+}
+
+/// How often each call met each refusal.
+#[derive(Default)]
+pub struct Tally(BTreeMap<(&'static str, u64), u64>);
+
+impl Tally {
+    pub fn compare(&mut self, call: &Call, lent: &[u64]) -> Outcome {
+        let outcome = compare(call, lent);
+        let refusal = match call {
+            Call::Check { .. } => outcome.answer[0] / 65_536,
+            _ => outcome.refusal(),
+        };
+        *self.0.entry((call.name(), refusal)).or_default() += 1;
+        outcome
+    }
+
+    /// Every one of these rows of the call has been met often, and no other.
+    pub fn covers(&self, call: &'static str, rows: &[u64]) {
+        let of_call = self.0.iter().filter(|((name, _), _)| *name == call);
+        let met: Vec<u64> = of_call.clone().map(|((_, row), _)| *row).collect();
+        assert_eq!(met, rows, "rows that {call} met");
+        for ((_, row), times) in of_call {
+            assert!(*times >= 50, "{call} met row {row} only {times} times");
+        }
+    }
+}
+
+fn lists(call: &Call) -> (Vec<u64>, Vec<u8>) {
+    match call {
+        Call::Reduce { log, .. } => (log.clone(), Vec::new()),
+        Call::Report { out } => (Vec::new(), out.clone()),
+        _ => (Vec::new(), Vec::new()),
+    }
+}
+
+fn by_reference(call: &Call, lent: &[u64]) -> Outcome {
+    let mut words = lent.to_vec();
+    let (mut log, mut out) = lists(call);
+    let answer = match call {
+        Call::Start { reference, capacity } => {
+            single(calls::start(&mut words, *reference, *capacity))
+        }
+        Call::Insert { number, point } => single(calls::insert(&mut words, *number, *point)),
+        Call::Remove { number } => single(calls::remove(&mut words, *number)),
+        Call::Least => match calls::least(&words) {
+            Ok((number, contribution)) => vec![0, number, contribution],
+            Err(refusal) => vec![refusal, 0, 0],
+        },
+        Call::Reduce { k, .. } => double(calls::reduce(&mut words, *k, &mut log)),
+        Call::Joint { first, second } => double(calls::joint(&words, *first, *second)),
+        Call::Gain { point } => double(calls::gain(&words, *point)),
+        Call::Share => double(calls::share(&words)),
+        Call::Audit => double(calls::audit(&words).map(u64::from)),
+        Call::Check { card } => vec![cards::check(card)],
+        Call::Load { card } => match cards::load(&mut words, card) {
+            Ok(count) => vec![0, 0, count],
+            Err((refusal, line)) => vec![refusal, line, 0],
+        },
+        Call::Report { .. } => double(calls::report(&words, &mut out)),
+    };
+    Outcome { answer, words, log, out }
+}
+
+fn single(result: Result<(), u64>) -> Vec<u64> {
+    vec![result.err().unwrap_or(0)]
+}
+
+fn double(result: Result<u64, u64>) -> Vec<u64> {
+    match result {
+        Ok(value) => vec![0, value],
+        Err(refusal) => vec![refusal, 0],
+    }
+}
+
+/// Memory lent between two fences that nobody may touch.
+struct Fenced<T> {
+    all: Vec<T>,
+    fence: T,
+}
+
+const FENCE: usize = 6;
+
+impl<T: Copy + PartialEq> Fenced<T> {
+    fn new(lent: &[T], fence: T) -> Fenced<T> {
+        let mut all = vec![fence; FENCE];
+        all.extend_from_slice(lent);
+        all.extend([fence; FENCE]);
+        Fenced { all, fence }
+    }
+
+    fn len(&self) -> usize {
+        self.all.len() - 2 * FENCE
+    }
+
+    fn ptr(&self) -> *const T {
+        self.all[FENCE..].as_ptr()
+    }
+
+    fn mut_ptr(&mut self) -> *mut T {
+        self.all[FENCE..].as_mut_ptr()
+    }
+
+    /// What the lent part holds, the fences being whole.
+    fn open(self) -> Vec<T> {
+        let (before, rest) = self.all.split_at(FENCE);
+        let (lent, behind) = rest.split_at(rest.len() - FENCE);
+        let whole = before.iter().chain(behind).all(|element| *element == self.fence);
+        assert!(whole, "memory around a lent slice was written");
+        lent.to_vec()
+    }
+}
+
+fn by_c(call: &Call, lent: &[u64]) -> Outcome {
+    let mut words = Fenced::new(lent, 0x5e5e_5e5e_5e5e_5e5e);
+    let (log, out) = lists(call);
+    let mut log = Fenced::new(&log, 0x5e5e_5e5e_5e5e_5e5e);
+    let mut out = Fenced::new(&out, 0x5e);
+    let len = words.len();
+    // SAFETY: each pointer and length are those of the lent part of one vector of its own.
+    let answer = unsafe {
+        match call {
+            Call::Start { reference: [rx, ry, rz], capacity } => {
+                vec![sys::ta_start(words.mut_ptr(), len, *rx, *ry, *rz, *capacity)]
+            }
+            Call::Insert { number, point: [x, y, z] } => {
+                vec![sys::ta_insert(words.mut_ptr(), len, *number, *x, *y, *z)]
+            }
+            Call::Remove { number } => vec![sys::ta_remove(words.mut_ptr(), len, *number)],
+            Call::Least => {
+                let answer = sys::ta_least(words.ptr(), len);
+                vec![answer.refusal, answer.number, answer.contribution]
+            }
+            Call::Reduce { k, .. } => {
+                let log_len = log.len();
+                fields(sys::ta_reduce(words.mut_ptr(), len, *k, log.mut_ptr(), log_len))
+            }
+            Call::Joint { first, second } => {
+                fields(sys::ta_joint(words.ptr(), len, *first, *second))
+            }
+            Call::Gain { point: [x, y, z] } => fields(sys::ta_gain(words.ptr(), len, *x, *y, *z)),
+            Call::Share => fields(sys::ta_share(words.ptr(), len)),
+            Call::Audit => fields(sys::ta_audit(words.ptr(), len)),
+            Call::Check { card } => vec![sys::ta_card_check(card.as_ptr(), card.len())],
+            Call::Load { card } => {
+                let answer = sys::ta_card_load(words.mut_ptr(), len, card.as_ptr(), card.len());
+                vec![answer.refusal, answer.line, answer.count]
+            }
+            Call::Report { .. } => {
+                let out_len = out.len();
+                fields(sys::ta_report(words.ptr(), len, out.mut_ptr(), out_len))
+            }
+        }
+    };
+    Outcome { answer, words: words.open(), log: log.open(), out: out.open() }
+}
+
+fn fields(answer: sys::Answer) -> Vec<u64> {
+    vec![answer.refusal, answer.value]
+}
+
+fn by_safe(call: &Call, lent: &[u64]) -> Outcome {
+    let mut memory = lent.to_vec();
+    let (mut log, mut out) = lists(call);
+    let answer = match call {
+        Call::Start { reference, capacity } => {
+            single(numbered(words::start(&mut memory, *reference, *capacity)))
+        }
+        Call::Insert { number, point } => {
+            single(numbered(words::insert(&mut memory, *number, *point)))
+        }
+        Call::Remove { number } => single(numbered(words::remove(&mut memory, *number))),
+        Call::Least => match words::least(&memory) {
+            Ok(least) => vec![0, least.number, least.contribution],
+            Err(refusal) => vec![refusal.number(), 0, 0],
+        },
+        Call::Reduce { k, .. } => double(numbered(words::reduce(&mut memory, *k, &mut log))),
+        Call::Joint { first, second } => double(numbered(words::joint(&memory, *first, *second))),
+        Call::Gain { point } => double(numbered(words::gain(&memory, *point))),
+        Call::Share => double(numbered(words::share(&memory))),
+        Call::Audit => double(numbered(words::audit(&memory)).map(u64::from)),
+        Call::Check { card } => match check_card(card) {
+            Ok(()) => vec![0],
+            Err(CardRefusal { refusal, line }) => vec![refusal.number() * 65_536 + line],
+        },
+        Call::Load { card } => match words::load_card(&mut memory, card) {
+            Ok(count) => vec![0, 0, count],
+            Err(CardRefusal { refusal, line }) => vec![refusal.number(), line, 0],
+        },
+        Call::Report { .. } => double(numbered(words::report(&memory, &mut out))),
+    };
+    Outcome { answer, words: memory, log, out }
+}
+
+fn numbered<T>(result: Result<T, Refusal>) -> Result<T, u64> {
+    result.map_err(Refusal::number)
+}

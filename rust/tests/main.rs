@@ -1,0 +1,15 @@
+//! The library against an independent implementation of document 01, and the safe functions
+//! against the bare C interface.
+
+mod boundaries;
+mod cards;
+mod counting;
+mod counts;
+mod examples;
+mod histories;
+mod lend;
+mod random_calls;
+mod reference;
+mod rng;
+mod scenes;
+mod wrapper;

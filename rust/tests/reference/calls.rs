@@ -1,0 +1,244 @@
+//! The calls on words, written from document 01's text: "The archive's words", "Calls" and
+//! "Where each call is turned down". An `Err` is a refusal number; lent memory is written only
+//! when nothing can be refused any more.
+
+use super::{box_of, gain_and_joints, totals, Point, MAX_CAPACITY, MAX_NUMBER, MAX_REFERENCE};
+
+#[derive(Clone, Debug)]
+pub struct Record {
+    pub number: u64,
+    pub point: Point,
+    pub contribution: u64,
+}
+
+/// What words say that have passed rows 1 to 3.
+#[derive(Clone, Debug)]
+pub struct Archive {
+    pub capacity: u64,
+    pub reference: Point,
+    pub total: u64,
+    pub records: Vec<Record>,
+}
+
+fn refuse_if(condition: bool, number: u64) -> Result<(), u64> {
+    if condition {
+        Err(number)
+    } else {
+        Ok(())
+    }
+}
+
+pub fn reference_allowed(reference: Point) -> bool {
+    reference.iter().all(|r| (1..=MAX_REFERENCE).contains(r))
+}
+
+pub fn capacity_allowed(capacity: u64) -> bool {
+    (1..=MAX_CAPACITY).contains(&capacity)
+}
+
+pub fn wide(point: [u32; 3]) -> Point {
+    point.map(u64::from)
+}
+
+/// Rows 1 to 3, and what the words say.
+pub fn read(words: &[u64]) -> Result<Archive, u64> {
+    refuse_if(words.len() < 8, 1)?;
+    let reference = [words[2], words[3], words[4]];
+    refuse_if(!capacity_allowed(words[1]) || !reference_allowed(reference), 2)?;
+    refuse_if(words[6] != 0 || words[7] != 0, 2)?;
+    refuse_if(words[0] > words[1] || words[5] > box_of(reference), 2)?;
+    let (count, capacity) = (words[0] as usize, words[1] as usize);
+    refuse_if(words.len() < 8 + 5 * capacity, 1)?;
+
+    let (used, unused) = words[8..8 + 5 * capacity].split_at(5 * count);
+    let record = |r: &[u64]| Record { number: r[0], point: [r[1], r[2], r[3]], contribution: r[4] };
+    let records: Vec<Record> = used.chunks(5).map(record).collect();
+    for record in &records {
+        refuse_if(!(1..=MAX_NUMBER).contains(&record.number), 3)?;
+        refuse_if((0..3).any(|axis| record.point[axis] > reference[axis]), 3)?;
+        refuse_if(record.contribution > box_of(reference), 3)?;
+    }
+    refuse_if(records.windows(2).any(|pair| key(&pair[0]) >= key(&pair[1])), 3)?;
+    let mut numbers: Vec<u64> = records.iter().map(|r| r.number).collect();
+    numbers.sort_unstable();
+    refuse_if(numbers.windows(2).any(|pair| pair[0] == pair[1]), 3)?;
+    refuse_if(unused.iter().any(|&word| word != 0), 3)?;
+    Ok(Archive { capacity: words[1], reference, total: words[5], records })
+}
+
+/// What records are in order of.
+fn key(record: &Record) -> [u64; 4] {
+    let [x, y, z] = record.point;
+    [z, y, x, record.number]
+}
+
+impl Archive {
+    pub fn empty(reference: Point, capacity: u64) -> Archive {
+        Archive { capacity, reference, total: 0, records: Vec::new() }
+    }
+
+    /// The words of the archive, all 8 + 5 × capacity of them.
+    pub fn words(&self) -> Vec<u64> {
+        let [rx, ry, rz] = self.reference;
+        let mut words =
+            vec![self.records.len() as u64, self.capacity, rx, ry, rz, self.total, 0, 0];
+        for record in &self.records {
+            words.push(record.number);
+            words.extend(record.point);
+            words.push(record.contribution);
+        }
+        words.resize(8 + 5 * self.capacity as usize, 0);
+        words
+    }
+
+    fn write(&self, words: &mut [u64]) {
+        let own = self.words();
+        words[..own.len()].copy_from_slice(&own);
+    }
+
+    pub fn count(&self) -> u64 {
+        self.records.len() as u64
+    }
+
+    pub fn points(&self) -> Vec<Point> {
+        self.records.iter().map(|r| r.point).collect()
+    }
+
+    pub fn position(&self, number: u64) -> Option<usize> {
+        self.records.iter().position(|r| r.number == number)
+    }
+
+    /// Rows 5 to 8 and 13, then the insertion.
+    pub fn insert(&mut self, number: u64, point: Point) -> Result<(), u64> {
+        refuse_if(!(1..=MAX_NUMBER).contains(&number), 5)?;
+        refuse_if((0..3).any(|axis| point[axis] > self.reference[axis]), 6)?;
+        refuse_if(self.position(number).is_some(), 7)?;
+        refuse_if(self.count() == self.capacity, 8)?;
+        let (gain, joints) = gain_and_joints(point, &self.points(), self.reference);
+        refuse_if(self.total + gain > box_of(self.reference), 13)?;
+        let falls_below =
+            self.records.iter().zip(&joints).any(|(r, joint)| r.contribution < *joint);
+        refuse_if(falls_below, 13)?;
+        for (record, joint) in self.records.iter_mut().zip(joints) {
+            record.contribution -= joint;
+        }
+        self.total += gain;
+        self.records.push(Record { number, point, contribution: gain });
+        self.records.sort_by_key(key);
+        Ok(())
+    }
+
+    /// Rows 9 and 13, then the removal.
+    pub fn remove(&mut self, number: u64) -> Result<(), u64> {
+        let position = self.position(number).ok_or(9_u64)?;
+        let mut others = self.records.clone();
+        let removed = others.remove(position);
+        let points: Vec<Point> = others.iter().map(|r| r.point).collect();
+        let (gain, joints) = gain_and_joints(removed.point, &points, self.reference);
+        refuse_if(self.total < gain, 13)?;
+        for (record, joint) in others.iter_mut().zip(joints) {
+            record.contribution += joint;
+            refuse_if(record.contribution > box_of(self.reference), 13)?;
+        }
+        self.total -= gain;
+        self.records = others;
+        Ok(())
+    }
+
+    /// The least kept contribution; among equals the highest trial number.
+    fn least(&self) -> Option<(u64, u64)> {
+        let least = self.records.iter().map(|r| r.contribution).min()?;
+        let among = self.records.iter().filter(|r| r.contribution == least);
+        Some((among.map(|r| r.number).max()?, least))
+    }
+
+    fn audit(&self) -> bool {
+        let counts = totals(&self.points(), self.reference);
+        let kept: Vec<u64> = self.records.iter().map(|r| r.contribution).collect();
+        self.total == counts.covered && kept == counts.alone
+    }
+}
+
+pub fn start(words: &mut [u64], reference: [u32; 3], capacity: u64) -> Result<(), u64> {
+    refuse_if(!reference_allowed(wide(reference)) || !capacity_allowed(capacity), 4)?;
+    refuse_if((words.len() as u64) < 8 + 5 * capacity, 1)?;
+    Archive::empty(wide(reference), capacity).write(words);
+    Ok(())
+}
+
+pub fn insert(words: &mut [u64], number: u64, point: [u32; 3]) -> Result<(), u64> {
+    let mut archive = read(words)?;
+    archive.insert(number, wide(point))?;
+    archive.write(words);
+    Ok(())
+}
+
+pub fn remove(words: &mut [u64], number: u64) -> Result<(), u64> {
+    let mut archive = read(words)?;
+    archive.remove(number)?;
+    archive.write(words);
+    Ok(())
+}
+
+/// Number and kept contribution.
+pub fn least(words: &[u64]) -> Result<(u64, u64), u64> {
+    read(words)?.least().ok_or(14)
+}
+
+pub fn reduce(words: &mut [u64], k: u64, log: &mut [u64]) -> Result<u64, u64> {
+    let mut archive = read(words)?;
+    refuse_if(k > archive.count(), 11)?;
+    let drops = archive.count() - k;
+    refuse_if((log.len() as u64) < 2 * drops, 12)?;
+    refuse_if(!archive.audit(), 13)?;
+    for pair in log.chunks_mut(2).take(drops as usize) {
+        let (number, contribution) = archive.least().expect("more than k trials are held");
+        pair.copy_from_slice(&[number, contribution]);
+        archive.remove(number).expect("the audit has said yes");
+    }
+    archive.write(words);
+    Ok(drops)
+}
+
+pub fn joint(words: &[u64], first: u64, second: u64) -> Result<u64, u64> {
+    let archive = read(words)?;
+    let (a, b) = (archive.position(first).ok_or(9_u64)?, archive.position(second).ok_or(9_u64)?);
+    refuse_if(a == b, 10)?;
+    let mut points = archive.points();
+    let own = points.remove(a);
+    let (_, joints) = gain_and_joints(own, &points, archive.reference);
+    Ok(joints[if b > a { b - 1 } else { b }])
+}
+
+pub fn gain(words: &[u64], point: [u32; 3]) -> Result<u64, u64> {
+    let archive = read(words)?;
+    let point = wide(point);
+    refuse_if((0..3).any(|axis| point[axis] > archive.reference[axis]), 6)?;
+    Ok(gain_and_joints(point, &archive.points(), archive.reference).0)
+}
+
+pub fn share(words: &[u64]) -> Result<u64, u64> {
+    let archive = read(words)?;
+    let millionths = u128::from(archive.total) * 1_000_000 / u128::from(box_of(archive.reference));
+    Ok(millionths as u64)
+}
+
+pub fn audit(words: &[u64]) -> Result<bool, u64> {
+    Ok(read(words)?.audit())
+}
+
+/// A number right-justified behind spaces in eight bytes, four times, one in twenty, a line end.
+pub fn report(words: &[u64], out: &mut [u8]) -> Result<u64, u64> {
+    let archive = read(words)?;
+    let mut text = line(archive.count(), archive.reference, archive.total);
+    for record in &archive.records {
+        text += &line(record.number, record.point, record.contribution);
+    }
+    refuse_if(out.len() < text.len(), 16)?;
+    out[..text.len()].copy_from_slice(text.as_bytes());
+    Ok(text.len() as u64)
+}
+
+fn line(first: u64, [x, y, z]: Point, last: u64) -> String {
+    format!("{first:8}{x:8}{y:8}{z:8}{last:20}\n")
+}

@@ -1,0 +1,53 @@
+//! Document 01 written out once more, plainly, to compare the library with. Nothing here is
+//! shared with the library, and the cells are counted by other means: one by one where the box
+//! is small, in blocks of a compressed grid where it is not.
+
+pub mod blocks;
+pub mod book;
+pub mod calls;
+pub mod cards;
+pub mod cells;
+
+/// x, y, z.
+pub type Point = [u64; 3];
+
+/// Cells within a box, by how many of some points dominate them.
+#[derive(Clone, Debug, PartialEq, Eq)]
+pub struct Counts {
+    /// Cells that at least one of the points dominates.
+    pub covered: u64,
+    /// For each point, the cells that it dominates and no other of them does.
+    pub alone: Vec<u64>,
+}
+
+pub const MAX_REFERENCE: u64 = 1_048_576;
+pub const MAX_CAPACITY: u64 = 512;
+pub const MAX_NUMBER: u64 = 9_999_999;
+
+/// Boxes up to this size are counted cell by cell.
+const SMALL_BOX: u64 = 150;
+
+pub fn box_of(reference: Point) -> u64 {
+    reference.iter().product()
+}
+
+/// Counts the cells that `corner` dominates.
+fn count(points: &[Point], corner: Point, reference: Point) -> Counts {
+    if box_of(reference) <= SMALL_BOX {
+        cells::count(points, corner, reference)
+    } else {
+        blocks::count(points, corner, reference)
+    }
+}
+
+/// The total and every contribution.
+pub fn totals(trials: &[Point], reference: Point) -> Counts {
+    count(trials, [0; 3], reference)
+}
+
+/// The gain of a point over the trials, and its joint contribution with each of them.
+pub fn gain_and_joints(point: Point, trials: &[Point], reference: Point) -> (u64, Vec<u64>) {
+    let counts = count(trials, point, reference);
+    let own: u64 = (0..3).map(|axis| reference[axis] - point[axis]).product();
+    (own - counts.covered, counts.alone)
+}

@@ -1,0 +1,89 @@
+//! What the owning archive adds to the calls.
+
+use trial_archive::{Archive, Refusal, Trial};
+
+#[test]
+fn start_out_of_range_allocates_nothing_for_it() {
+    for capacity in [0, 513, u64::MAX, u64::MAX / 5] {
+        assert_eq!(Archive::start([4, 4, 4], capacity), Err(Refusal::BadStart));
+    }
+    for reference in [[0, 1, 1], [1, 1_048_577, 1], [1, 1, u32::MAX]] {
+        assert_eq!(Archive::start(reference, 1), Err(Refusal::BadStart));
+    }
+    for capacity in [1, 512] {
+        let archive = Archive::start([1, 2, 1_048_576], capacity).unwrap();
+        assert_eq!(archive.capacity() as u64, capacity);
+        assert_eq!(archive.words().len() as u64, 8 + 5 * capacity);
+        assert_eq!(archive.reference(), [1, 2, 1_048_576]);
+        assert_eq!((archive.count(), archive.total()), (0, 0));
+    }
+}
+
+#[test]
+fn trials_in_archive_order() {
+    let mut archive = Archive::start([9, 9, 9], 4).unwrap();
+    archive.insert(5, [1, 1, 2]).unwrap();
+    archive.insert(9, [3, 1, 1]).unwrap();
+    archive.insert(7, [3, 1, 1]).unwrap();
+    let trials: Vec<Trial> = archive.trials().collect();
+    assert_eq!(trials.iter().map(|t| t.number).collect::<Vec<_>>(), [7, 9, 5]);
+    assert_eq!(trials[2], Trial { number: 5, point: [1, 1, 2], contribution: 112 });
+    assert_eq!(archive.trials().len(), 3);
+}
+
+#[test]
+fn a_loaded_card_is_its_insertions() {
+    let card = b"       3       4       5       6\n       8       1       2       3\n";
+    let mut archive = Archive::start([4, 5, 6], 3).unwrap();
+    archive.insert(8, [1, 2, 3]).unwrap();
+    assert_eq!(Archive::load_card(card), Ok(archive));
+    let refusal = Archive::load_card(&card[..40]).unwrap_err();
+    assert_eq!((refusal.refusal, refusal.line), (Refusal::CardForm, 2));
+}
+
+#[test]
+fn words_kept_elsewhere() {
+    let mut archive = Archive::start([4, 4, 4], 2).unwrap();
+    archive.insert(1, [1, 1, 1]).unwrap();
+    let mut words = archive.clone().into_words();
+    words.extend([7, 7]);
+    assert_eq!(Archive::from_words(words.clone()), Ok(archive));
+    words[5] = 26;
+    let mut foreign = Archive::from_words(words.clone()).unwrap();
+    assert_eq!(foreign.audit(), Ok(false));
+    assert_eq!(foreign.reduce(0), Err(Refusal::Miscount));
+    words[9] = 5;
+    assert_eq!(Archive::from_words(words.clone()), Err(Refusal::BadRecords));
+    words[6] = 1;
+    assert_eq!(Archive::from_words(words.clone()), Err(Refusal::BadHeader));
+    words.truncate(7);
+    assert_eq!(Archive::from_words(words), Err(Refusal::SliceShort));
+}
+
+#[test]
+fn reductions_that_drop_nothing_or_all() {
+    let mut archive = Archive::start([4, 4, 4], 2).unwrap();
+    archive.insert(1, [1, 1, 1]).unwrap();
+    archive.insert(2, [3, 3, 3]).unwrap();
+    assert_eq!(archive.reduce(2), Ok(vec![]));
+    assert_eq!(archive.reduce(3), Err(Refusal::AboveCount));
+    assert_eq!(archive.reduce(u64::MAX), Err(Refusal::AboveCount));
+    assert_eq!(archive.reduce(0).unwrap().len(), 2);
+    assert_eq!((archive.count(), archive.total()), (0, 0));
+    assert_eq!(archive.report().unwrap(), "       0       4       4       4                   0\n");
+}
+
+#[test]
+fn refusals_have_their_numbers() {
+    let numbers: Vec<u64> = Refusal::ALL.iter().map(|r| r.number()).collect();
+    assert_eq!(numbers, (1..=16).collect::<Vec<u64>>());
+    for refusal in Refusal::ALL {
+        assert_eq!(Refusal::from_number(refusal.number()), Some(refusal));
+    }
+    assert_eq!(Refusal::from_number(0), None);
+    assert_eq!(Refusal::from_number(17), None);
+    let mut texts: Vec<String> = Refusal::ALL.iter().map(Refusal::to_string).collect();
+    texts.sort();
+    texts.dedup();
+    assert_eq!(texts.len(), 16);
+}
