@@ -1,4 +1,5 @@
 // Calls on archives: the counts of document 01, and the refusals at their limits. Prints how many came out as they should.
+// Also random archives, against a book of trials whose cells are counted one by one.
 use hypervolume::Point;
 use libc::STDOUT_FILENO;
 ghost use mathlib.Core.Path.{_≡_};
@@ -487,6 +488,223 @@ fn amounts() -> u64
         + overruns(17, 64, 4, 13)
 }
 
+// A number below 32,768 that looks random, the i-th of a kind for an archive.
+fn noise(set: u64, kind: u64, i: u64) -> u64
+    ensures { λ r. ⌜ r < 32768 ⌝ }
+{
+    let seed = set % 65536 * 64 + kind % 4 * 16 + i % 16;
+    let mixed = (seed * 1103515245 + 12345) / 1024 % 4194304;
+    (mixed * 22695477 + seed) / 256 % 32768
+}
+
+// The book has four words for each trial 1 to 8: 1 where it is held, x, y, z. Trial 9 is a point to gain; in place 0
+// stands the origin, which is no trial, and in place 10 the reference.
+fn enter(book: &mut [u64], n: usize, p: Point) {
+    let from = 4 * (n % 16);
+    let x = p.at[0] as u64;
+    let y = p.at[1] as u64;
+    let z = p.at[2] as u64;
+    put(book, from, 1);
+    put(book, from + 1, x);
+    put(book, from + 2, y);
+    put(book, from + 3, z);
+}
+
+// 1 where the book's trial n dominates the cell (i, j, k).
+fn dominates(book: &[u64], n: usize, i: u64, j: u64, k: u64) -> u64
+    ensures { λ r. ⌜ r ≤ 1 ⌝ }
+{
+    let from = 4 * (n % 16);
+    one(
+        at(book, from) == 1
+            && at(book, from + 1) <= i
+            && at(book, from + 2) <= j
+            && at(book, from + 3) <= k,
+    )
+}
+
+// How many trials dominate the cell.
+fn cover(book: &[u64], i: u64, j: u64, k: u64) -> u64 {
+    let low = dominates(book, 1, i, j, k)
+        + dominates(book, 2, i, j, k)
+        + dominates(book, 3, i, j, k);
+    let middle = dominates(book, 4, i, j, k)
+        + dominates(book, 5, i, j, k)
+        + dominates(book, 6, i, j, k);
+    let high = dominates(book, 7, i, j, k)
+        + dominates(book, 8, i, j, k)
+        + dominates(book, 9, i, j, k);
+    low + middle + high
+}
+
+// 1 where trials a and b dominate the cell of this number, and from `least` to `most` trials do.
+fn counted(book: &[u64], a: usize, b: usize, least: u64, most: u64, cell: u64) -> u64
+    ensures { λ r. ⌜ r ≤ 1 ⌝ }
+{
+    let i = cell / 36;
+    let j = cell / 6 % 6;
+    let k = cell % 6;
+    if at(book, 41) <= i || at(book, 42) <= j || at(book, 43) <= k {
+        return 0;
+    }
+    if dominates(book, a, i, j, k) + dominates(book, b, i, j, k) < 2 {
+        return 0;
+    }
+    let over = cover(book, i, j, k);
+    one(least <= over && over <= most)
+}
+
+// How many cells are so. The reference is at most 6 on each axis.
+fn cells(book: &[u64], a: usize, b: usize, least: u64, most: u64) -> u64 {
+    let mut found: u64 = 0;
+    for cell in 0..216u64 {
+        found = found % 1000 + counted(book, a, b, least, most, cell);
+    }
+    found
+}
+
+fn contribution(book: &[u64], n: usize) -> u64 {
+    cells(book, n, n, 1, 1)
+}
+
+fn held(book: &[u64], n: usize) -> bool {
+    at(book, 4 * (n % 16)) == 1
+}
+
+// The least contributor; among equals the highest number. 0 where there is none.
+fn least(book: &[u64]) -> usize {
+    let mut found: usize = 0;
+    for n in 1..9usize {
+        if held(book, n) && (found == 0 || contribution(book, n) <= contribution(book, found)) {
+            found = n;
+        }
+    }
+    found
+}
+
+// Whether the kept contribution of trial n is its count, and with trial m the joint one.
+fn trial_agrees(book: &[u64], w: &[u64], n: usize, m: usize) -> bool {
+    if !held(book, n) {
+        return kept(w, n as u64) == 0;
+    }
+    if kept(w, n as u64) != contribution(book, n) {
+        return false;
+    }
+    if n == m || !held(book, m) {
+        return true;
+    }
+    says(
+        archive::joint(w, n as u64, m as u64),
+        0,
+        cells(book, n, m, 2, 2),
+    )
+        == 1
+}
+
+// Whether the total, the contributions and joint contributions are the counts. The trials go in pairs n, n + step.
+fn agrees(book: &[u64], w: &[u64], step: usize) -> bool {
+    for n in 1..9usize {
+        if !trial_agrees(book, w, n, 1 + (n + step % 8) % 8) {
+            return false;
+        }
+    }
+    at(w, 5) == cells(book, 0, 0, 1, 9)
+}
+
+// A coordinate up to the reference, often the reference itself.
+fn coordinate(set: u64, axis: u64, i: u64, reference: u64) -> u32 {
+    let x = noise(set, axis, i) % 8;
+    if x < reference {
+        x as u32
+    } else {
+        (reference % 8) as u32
+    }
+}
+
+fn somewhere(book: &[u64], set: u64, i: u64) -> Point {
+    let x = coordinate(set, 0, i, at(book, 41));
+    let y = coordinate(set, 1, i, at(book, 42));
+    let z = coordinate(set, 2, i, at(book, 43));
+    point(x, y, z)
+}
+
+// Whether the gain of a point is its count.
+fn gains(book: &mut [u64], w: &[u64], p: Point) -> bool {
+    enter(book, 9, p);
+    let due = contribution(book, 9);
+    put(book, 36, 0);
+    says(archive::gain(w, p), 0, due) == 1
+}
+
+// Drops the least contributor, if there is one, from both.
+fn drop_least(book: &mut [u64], w: &mut [u64]) -> bool {
+    let n = least(book);
+    let count = at(w, 0);
+    if count == 0 {
+        return n == 0;
+    }
+    let rest = count - 1;
+    let due = contribution(book, n);
+    let mut log = [0u64; 2];
+    put(book, 4 * (n % 16), 0);
+    let done = says(archive::reduce(w, rest, &mut log), 0, 1);
+    done == 1 && at(&log, 0) == n as u64 && at(&log, 1) == due
+}
+
+// One call on both: an insertion, a removal of the held, or a reduction by one.
+fn step(book: &mut [u64], w: &mut [u64], set: u64, i: u64) -> bool {
+    let n = (1 + noise(set, 3, i) % 8) as usize;
+    if noise(set, 3, i) / 8 % 8 == 0 {
+        return drop_least(book, w);
+    }
+    if held(book, n) {
+        put(book, 4 * (n % 16), 0);
+        return archive::remove(w, n as u64) == 0;
+    }
+    let p = somewhere(book, set, i);
+    enter(book, n, p);
+    archive::insert(w, n as u64, p) == 0
+}
+
+// Twelve calls on an archive, compared with the book after each.
+fn lives(book: &mut [u64], w: &mut [u64], set: u64) -> bool {
+    for i in 0..12u64 {
+        if !step(book, w, set, i) {
+            return false;
+        }
+        if !agrees(book, w, (i % 8) as usize) {
+            return false;
+        }
+        let p = somewhere(book, set, i + 1);
+        if !gains(book, w, p) {
+            return false;
+        }
+    }
+    says(archive::audit(w), 0, 1) == 1
+}
+
+// The archive of this number.
+fn archive_agrees(set: u64) -> bool {
+    let mut book = [0u64; 44];
+    let mut w = [7u64; 48];
+    let x = 1 + noise(set, 0, 15) % 6;
+    let y = 1 + noise(set, 1, 15) % 6;
+    let z = 1 + noise(set, 2, 15) % 6;
+    let reference = point(x as u32, y as u32, z as u32);
+    enter(&mut book, 0, point(0, 0, 0));
+    enter(&mut book, 10, reference);
+    archive::start(&mut w, reference, 8) == 0 && lives(&mut book, &mut w, set)
+}
+
+// How many of a hundred archives differ.
+fn differing() -> u64 {
+    let mut differ: u64 = 0;
+    for set in 0..100u64 {
+        differ = differ % 1000 + one(!archive_agrees(set));
+    }
+    differ
+}
+
 // The refusals, and what is just not refused.
 fn refusals() -> u64
     ensures { λ r. ⌜ r ≤ 109 ⌝ }
@@ -507,5 +725,7 @@ fn main() {
     io::print_decimal(STDOUT_FILENO, counts());
     io::write_all(STDOUT_FILENO, b" counts, ");
     io::print_decimal(STDOUT_FILENO, refusals());
-    io::write_all(STDOUT_FILENO, b" refusals\n");
+    io::write_all(STDOUT_FILENO, b" refusals, 100 archives, ");
+    io::print_decimal(STDOUT_FILENO, differing());
+    io::write_all(STDOUT_FILENO, b" differ\n");
 }
