@@ -4,7 +4,7 @@ use Prim.Native.Nat.{ℕ, suc, _+_, _-_, _*_, _≤_, _<_, max}
 use mathlib.Core.Path.{_≡_, refl, sym, ap, _∙_}
 use mathlib.Core.Bool.{Bool, true, false}
 use mathlib.Core.List.{List, [], _∷_, _++_}
-use native.Mathlib.Nat.{add-zero}
+use native.Mathlib.Nat.{add-zero, add-comm}
 use native.Mathlib.Decide.{decLe}
 use native.Mathlib.Omega.{arith}
 use lib.Dec.{leb, eqb, ltb}
@@ -13,16 +13,17 @@ use Rattle.hypervolume.specs.Cells.{both, holds, sum}
 use Rattle.hypervolume.proofs.Sums.{sum-none, sum-steady}
 use Rattle.hypervolume.proofs.Tests.{Compared, below, above, compared, Equated, same, differs, equated, both-le-right}
 use Rattle.sweep.specs.declared.column.Column.{Column}
-use Rattle.sweep.specs.Line.{tally, yOf, indexOf}
-use Rattle.sweep.specs.Strips.{pickColumn, columnWith, alone, shared}
+use Rattle.sweep.specs.Line.{tally, yOf, indexOf, low, lowBy}
+use Rattle.sweep.specs.Strips.{pickColumn, columnWith, Standing, alone, shared}
 use Rattle.sweep.proofs.Tallies.{tally-append, tally-parts}
 
--- How many of the entries passed are at most j on y, and how many of those are of the point of index t.
-unfoldable pub low : List ℕ → ℕ → ℕ
-low passed j = tally (λ w. leb (yOf w) j) passed
+pub low-append : (s t : List ℕ) (j : ℕ) → low (s ++ t) j ≡ low s j + low t j
+unfolding low
+low-append s t j = tally-append (λ v. leb (yOf v) j) s t
 
-unfoldable pub lowBy : ℕ → List ℕ → ℕ → ℕ
-lowBy t passed j = tally (λ w. both (eqb (indexOf w) t) (leb (yOf w) j)) passed
+pub lowBy-append : (p : ℕ) (s t : List ℕ) (j : ℕ) → lowBy p (s ++ t) j ≡ lowBy p s j + lowBy p t j
+unfolding lowBy
+lowBy-append p s t j = tally-append (λ v. both (eqb (indexOf v) p) (leb (yOf v) j)) s t
 
 pub low-more : (passed : List ℕ) (w j : ℕ) → low (passed ++ (w ∷ [])) j ≡ low passed j + holds (leb (yOf w) j)
 unfolding low tally
@@ -55,16 +56,6 @@ lowBy-le t passed j =
     let both′ : lowBy t passed j + lowBy (suc t) passed j ≤ low passed j = lowBy-others t (suc t) passed j (λ e. omega arith) in
     omega arith
 
--- What a column's state says of the rows below ry: none of the points passed dominates the cells below `least`, the
--- owner alone does from there up to `second`, two or more do above.
-pub record Standing (ry : ℕ) (passed : List ℕ) (column : Column) : Type 0 where
-  pub ordered : column .least ≤ column .second
-  pub top : column .second ≤ ry
-  pub none : (j : ℕ) → j < column .least → low passed j ≡ 0
-  pub one : (j : ℕ) → column .least ≤ j → j < column .second → low passed j ≡ 1
-  pub owned : (j : ℕ) → column .least ≤ j → j < column .second → lowBy (column .owner) passed j ≡ 1
-  pub more : (j : ℕ) → column .second ≤ j → j < ry → 2 ≤ low passed j
-
 pub standing-none : (ry : ℕ) → Standing ry [] (record { least = ry; owner = 0; second = ry })
 unfolding low tally
 standing-none ry =
@@ -78,7 +69,7 @@ standing-none ry =
     }
 
 -- from `least` on at least one dominates
-standing-some : {ry : ℕ} {passed : List ℕ} {column : Column} → Standing ry passed column → (j : ℕ) → column .least ≤ j → j < ry → 1 ≤ low passed j
+pub standing-some : {ry : ℕ} {passed : List ℕ} {column : Column} → Standing ry passed column → (j : ℕ) → column .least ≤ j → j < ry → 1 ≤ low passed j
 standing-some {ry} {passed} {column} h j l m = go (decLe (column .second) j)
   where
     go : Dec (column .second ≤ j) → 1 ≤ low passed j
@@ -87,11 +78,11 @@ standing-some {ry} {passed} {column} h j l m = go (decLe (column .second) j)
         let q : j < column .second = omega arith in
         omega (arith, h .one j l q)
 
-under : (y j : ℕ) → y ≤ j → holds (leb y j) ≡ 1
+pub under : (y j : ℕ) → y ≤ j → holds (leb y j) ≡ 1
 unfolding holds
 under y j l = rw (le-leb y j l)
 
-beyond : (y j : ℕ) → j < y → holds (leb y j) ≡ 0
+pub beyond : (y j : ℕ) → j < y → holds (leb y j) ≡ 0
 unfolding holds
 beyond y j l = rw (lt-leb y j l)
 
@@ -102,18 +93,8 @@ mine p y j l = rw (eq-eqb p p refl) (under y j l)
 yours : (a : Bool) (y j : ℕ) → j < y → holds (both a (leb y j)) ≡ 0
 yours a y j l = let less : holds (both a (leb y j)) ≤ holds (leb y j) = both-le-right a (leb y j) in omega (arith, beyond y j l)
 
-module _ {ry : ℕ} {passed : List ℕ} {column : Column} (h : Standing ry passed column) (w : ℕ) where
-  all : List ℕ
-  all = passed ++ (w ∷ [])
-
-  low-all : (j : ℕ) → low all j ≡ low passed j + holds (leb (yOf w) j)
-  unfolding all
-  low-all j = low-more passed w j
-
-  lowBy-all : (t j : ℕ) → lowBy t all j ≡ lowBy t passed j + holds (both (eqb (indexOf w) t) (leb (yOf w) j))
-  unfolding all
-  lowBy-all t j = lowBy-more t passed w j
-
+-- One more entry, behind those passed or before them.
+module _ {ry : ℕ} {passed : List ℕ} {column : Column} (h : Standing ry passed column) (w : ℕ) {all : List ℕ} (low-all : (j : ℕ) → low all j ≡ low passed j + holds (leb (yOf w) j)) (lowBy-all : (t j : ℕ) → lowBy t all j ≡ lowBy t passed j + holds (both (eqb (indexOf w) t) (leb (yOf w) j))) where
   -- the new point is the lowest
   standing-least : yOf w < column .least → Standing ry all (record { least = yOf w; owner = indexOf w; second = column .least })
   standing-least y =
@@ -153,15 +134,40 @@ module _ {ry : ℕ} {passed : List ℕ} {column : Column} (h : Standing ry passe
         more = λ j l m. omega (arith, low-all j, h .more j l m);
       }
 
-  pub standing-more : Standing ry (passed ++ (w ∷ [])) (columnWith column (yOf w) (indexOf w))
-  unfolding all columnWith
-  standing-more = go (ltb (yOf w) (column .least)) (ltb (yOf w) (column .second)) (compared (suc (yOf w)) (column .least)) (compared (suc (yOf w)) (column .second))
+  standing-with : Standing ry all (columnWith column (yOf w) (indexOf w))
+  unfolding columnWith
+  standing-with = go (ltb (yOf w) (column .least)) (ltb (yOf w) (column .second)) (compared (suc (yOf w)) (column .least)) (compared (suc (yOf w)) (column .second))
     where
       go : (a b : Bool) → Compared (suc (yOf w)) (column .least) a → Compared (suc (yOf w)) (column .second) b → Standing ry all (pickColumn a (record { least = yOf w; owner = indexOf w; second = column .least }) (pickColumn b (record { least = column .least; owner = column .owner; second = yOf w }) column))
       go true true (below p) (below q) = standing-least p
       go true false (below p) (above q) = standing-least p
       go false true (above p) (below q) = standing-second (omega arith) q
       go false false (above p) (above q) = standing-kept (omega arith)
+
+module _ {ry : ℕ} {passed : List ℕ} {column : Column} (h : Standing ry passed column) where
+  pub standing-more : (w : ℕ) → Standing ry (passed ++ (w ∷ [])) (columnWith column (yOf w) (indexOf w))
+  standing-more w = standing-with h w (low-more passed w) (λ t. lowBy-more t passed w)
+
+  pub standing-before : (w : ℕ) → Standing ry (w ∷ passed) (columnWith column (yOf w) (indexOf w))
+  unfolding low lowBy tally
+  standing-before w =
+      standing-with h w
+      (λ j. add-comm (holds (leb (yOf w) j)) (low passed j))
+      (λ t j. add-comm (holds (both (eqb (indexOf w) t) (leb (yOf w) j))) (lowBy t passed j))
+
+  -- Entries that lie no lower than the second lowest change nothing.
+  pub standing-behind : (earlier : List ℕ) → ((j : ℕ) → j < column .second → low earlier j ≡ 0) → Standing ry (earlier ++ passed) column
+  standing-behind earlier e =
+      record {
+        ordered = h .ordered;
+        top = h .top;
+        none = λ j l. low-append earlier passed j ∙ omega (arith, e j (let u : j < column .second = omega (arith, h .ordered) in u), h .none j l);
+        one = λ j l m. low-append earlier passed j ∙ omega (arith, e j m, h .one j l m);
+        owned = λ j l m.
+            lowBy-append (column .owner) earlier passed j
+            ∙ omega (arith, e j m, lowBy-le (column .owner) earlier j, h .owned j l m);
+        more = λ j l m. omega (arith, low-append earlier passed j, h .more j l m);
+      }
 
 pub columnWith-owned : (column : Column) (y owner n : ℕ) → column .owner < n → owner < n → columnWith column y owner .owner < n
 unfolding columnWith

@@ -17,12 +17,11 @@ use Rattle.hypervolume.specs.Cells.{both, holds, dominates, sum, cells, count}
 use Rattle.hypervolume.proofs.Sums.{sum-ext, sum-le, sum-const, sum-none, sum-steady}
 use Rattle.hypervolume.proofs.Tests.{Compared, below, compared, both-comm, holds-le-one}
 use Rattle.sweep.specs.declared.column.Column.{Column}
-use Rattle.sweep.specs.Points.{Ascending}
-use Rattle.sweep.specs.Line.{xOf, yOf, indexOf, over, overBy, gainOver, sharedWith}
-use Rattle.sweep.specs.Strips.{columnWith, alone, shared, Settling, Settled, Crossing, Crossed}
-use Rattle.sweep.proofs.Lists.{ascending-at}
+use Rattle.sweep.specs.Line.{xOf, yOf, indexOf, low, lowBy, over, overBy, gainOver, sharedWith, Rising}
+use Rattle.sweep.specs.Strips.{columnWith, Standing, alone, shared, Settling, Settled, Crossing, Crossed}
+use Rattle.sweep.proofs.Orders.{rising-pair}
 use Rattle.sweep.proofs.Tallies.{column-least, column-tally}
-use Rattle.sweep.proofs.Columns.{low, lowBy, Standing, standing-none, standing-more, columnWith-owned, gainRow, sharedRow, gain-rows, shared-rows, shared-rows-other}
+use Rattle.sweep.proofs.Columns.{standing-more, columnWith-owned, gainRow, sharedRow, gain-rows, shared-rows, shared-rows-other}
 
 -- Products of two and of three numbers up to 1,048,576 fit a word.
 pub two-fit : {a b : ℕ} → a ≤ 1048576 → b ≤ 1048576 → a * b ≤ 1099511627776
@@ -99,14 +98,14 @@ sharedIn-before : (t : ℕ) (line : List ℕ) (px py ry i : ℕ) → i < px → 
 unfolding sharedIn dominates both holds
 sharedIn-before t line px py ry i l = sum-none ry _ (λ j m. rw (lt-leb px i l))
 
-pub swept-none : {line : List ℕ} {px py rx ry height : ℕ} {out : List ℕ} → Crossing line px py rx ry height out → {at : ℕ} → at ≡ min px rx → Swept line px py rx ry height out 0 at 0 (record { least = ry; owner = 0; second = ry }) out
-swept-none {line} {px} {py} {rx} {ry} {height} {out} c {at} e =
+pub swept-none : {line : List ℕ} {start : ℕ} {first : Column} {px py rx ry height : ℕ} {out : List ℕ} → Crossing line start first px py rx ry height out → {at : ℕ} → at ≡ min px rx → Swept line px py rx ry height out start at 0 first out
+swept-none {line} {start} {first} {px} {py} {rx} {ry} {height} {out} c {at} e =
     record {
       from = omega arith;
       within = omega arith;
-      passed = λ a m. absurd (let no′ : ⊥ = omega arith in no′);
-      standing = standing-none ry;
-      owned = omega (arith, c .indices 0);
+      passed = λ a m. omega (arith, c .reached a m);
+      standing = c .standing;
+      owned = c .owned;
       alike = refl;
       gained = sym (sum-none at (gainIn line px py ry) (λ i m. gainIn-before line px py ry i (omega arith)));
       fallen = λ j.
@@ -192,7 +191,7 @@ module _ {line : List ℕ} {px py rx ry height : ℕ} {out : List ℕ} {k at are
       ∙ rw (mul-zero (to - at)) (add-zero (sum at (sharedIn t line px py ry)))
 
   -- What falls here is part of what falls over all columns, so the owner's contribution is large enough.
-  pub swept-settling : Crossing line px py rx ry height out → Settling column at to py height left
+  pub swept-settling : {start : ℕ} {first : Column} → Crossing line start first px py rx ry height out → Settling column at to py height left
   unfolding sharedWith count cells sharedIn
   swept-settling c =
       let o = column .owner in
@@ -215,7 +214,7 @@ module _ {line : List ℕ} {px py rx ry height : ℕ} {out : List ℕ} {k at are
     pub swept-area : area + gained ≡ sum (max at to) (gainIn line px py ry)
     swept-area = rw (s .gained) (sym strip-gain)
 
-    fallen-owner : Crossing line px py rx ry height out → getD left′ (column .owner) 0 + height * sum (max at to) (sharedIn (column .owner) line px py ry) ≡ getD out (column .owner) 0
+    fallen-owner : {start : ℕ} {first : Column} → Crossing line start first px py rx ry height out → getD left′ (column .owner) 0 + height * sum (max at to) (sharedIn (column .owner) line px py ry) ≡ getD out (column .owner) 0
     fallen-owner c =
         let o = column .owner in
         let before : getD left o 0 + height * sum at (sharedIn o line px py ry) ≡ getD out o 0 = h .fallen o in
@@ -233,7 +232,7 @@ module _ {line : List ℕ} {px py rx ry height : ℕ} {out : List ℕ} {k at are
         rw (s .fallen, strip-other t n, getD-set-other left (column .owner) t (getD left (column .owner) 0 - height * ((to - at) * shared column py)) 0 n)
         (h .fallen t)
 
-    pub swept-settled : Crossing line px py rx ry height out → Swept line px py rx ry height out k (max at to) (area + gained) column left′
+    pub swept-settled : {start : ℕ} {first : Column} → Crossing line start first px py rx ry height out → Swept line px py rx ry height out k (max at to) (area + gained) column left′
     swept-settled c =
         record {
           from = omega (arith, h .from);
@@ -254,8 +253,8 @@ module _ {line : List ℕ} {px py rx ry height : ℕ} {out : List ℕ} {k at are
         go t (no n) = fallen-other t n
 
 -- One entry passed.
-swept-passed : {line : List ℕ} {px py rx ry height : ℕ} {out : List ℕ} {k at area : ℕ} {column : Column} {left : List ℕ} → Crossing line px py rx ry height out → Swept line px py rx ry height out k at area column left → k < length line → min (xOf (getD line k 0)) rx ≤ at → Swept line px py rx ry height out (k + 1) at area (columnWith column (yOf (getD line k 0)) (indexOf (getD line k 0))) left
-swept-passed {line} {px} {py} {rx} {ry} {height} {out} {k} {at} {area} {column} {left} c h l m =
+swept-passed : {line : List ℕ} {px py rx ry height : ℕ} {out : List ℕ} {k at area : ℕ} {column : Column} {left : List ℕ} {start : ℕ} {first : Column} → Crossing line start first px py rx ry height out → Swept line px py rx ry height out k at area column left → k < length line → min (xOf (getD line k 0)) rx ≤ at → Swept line px py rx ry height out (k + 1) at area (columnWith column (yOf (getD line k 0)) (indexOf (getD line k 0))) left
+swept-passed {line} {px} {py} {rx} {ry} {height} {out} {k} {at} {area} {column} {left} {start} {first} c h l m =
     record {
       from = h .from;
       within = h .within;
@@ -318,7 +317,7 @@ module _ {line : List ℕ} {px py rx ry height : ℕ} {out : List ℕ} {k at are
       }
 
 -- The area fits a word.
-pub swept-fits : {line : List ℕ} {px py rx ry height : ℕ} {out : List ℕ} {k at area : ℕ} {column : Column} {left : List ℕ} → Crossing line px py rx ry height out → Swept line px py rx ry height out k at area column left → area < 2 ^ 64
+pub swept-fits : {line : List ℕ} {px py rx ry height : ℕ} {out : List ℕ} {k at area : ℕ} {column : Column} {left : List ℕ} {start : ℕ} {first : Column} → Crossing line start first px py rx ry height out → Swept line px py rx ry height out k at area column left → area < 2 ^ 64
 swept-fits {line} {px} {py} {rx} {ry} {height} {out} {k} {at} {area} c h =
     let columns : sum at (gainIn line px py ry) ≤ sum at (λ i. ry) =
     sum-le at (gainIn line px py ry) (λ i. ry) (λ i l. gainIn-le line px py ry i) in
@@ -336,13 +335,13 @@ swept-end {line} {px} {py} {rx} {ry} {height} {out} {k} {at} h l =
     }
 
 -- no entry from k on begins before the one at k
-ahead-of : (line : List ℕ) (k rx : ℕ) → Ascending line → (a : ℕ) → k ≤ a → a < length line → min (xOf (getD line k 0)) rx ≤ xOf (getD line a 0)
+ahead-of : (line : List ℕ) (k rx : ℕ) → Rising 0 line → (a : ℕ) → k ≤ a → a < length line → min (xOf (getD line k 0)) rx ≤ xOf (getD line a 0)
 ahead-of line k rx h a l m =
-    let rises : getD line k 0 ≤ getD line a 0 = ascending-at line h k a l m in
+    let rises : xOf (getD line k 0) ≤ xOf (getD line a 0) = rising-pair 0 line h k a l m in
     omega arith
 
 -- A turn: the strip up to the entry at k is settled, and the entry passed.
-module _ {line : List ℕ} {px py rx ry height : ℕ} {out : List ℕ} {k at area : ℕ} {column : Column} {left : List ℕ} (c : Crossing line px py rx ry height out) (h : Swept line px py rx ry height out k at area column left) where
+module _ {line : List ℕ} {px py rx ry height : ℕ} {out : List ℕ} {k at area : ℕ} {column : Column} {left : List ℕ} {start : ℕ} {first : Column} (c : Crossing line start first px py rx ry height out) (h : Swept line px py rx ry height out k at area column left) where
   module _ {next : ℕ} (to : next ≡ min (xOf (getD line k 0)) rx) where
     within-next : next ≤ rx
     within-next = omega arith

@@ -1,58 +1,85 @@
 -- The next point of the sweep, seen along z: its gain and its joint contributions are counts of the line.
-use Prim.Native.Nat.{ℕ, zero, suc, _+_, _-_, _*_, _≤_, _<_}
+use Prim.Native.Nat.{ℕ, zero, suc, _+_, _-_, _*_, _≤_, _<_, min}
 use mathlib.Core.Path.{_≡_, refl, sym, ap, _∙_}
 use mathlib.Core.Bool.{Bool, true, false}
 use mathlib.Core.List.{List, [], _∷_, _++_, map, map-append}
 use native.Mathlib.Nat.{zero-add, add-zero, add-comm}
 use native.Mathlib.Decide.{decLe}
-use native.Mathlib.Numerals.{one-add}
+use native.Mathlib.Numerals.{one-add, add-one}
 use native.Mathlib.Omega.{arith}
 use lib.Dec.{leb, eqb, eqb·suc-suc}
 use lib.ListN.{length, getD, length-append, List·getD-append}
 use lib.Seq.{getD-append-seam}
 use borrow.Author.Tests.{eq-eqb, ne-eqb}
-use Rattle.hypervolume.specs.Cells.{both, holds, dominates}
+use Rattle.hypervolume.specs.Cells.{both, holds, dominates, cells, count}
 use Rattle.hypervolume.specs.Counts.{cover, total, contribution, gain, joint}
-use Rattle.hypervolume.proofs.Tests.{both-comm}
+use Rattle.hypervolume.proofs.Sums.{sum-ext}
+use Rattle.hypervolume.proofs.Tests.{Equated, same, differs, equated, both-comm}
 use Rattle.hypervolume.proofs.Dominance.{first, rest, cover-append, among-at}
-use Rattle.hypervolume.proofs.Counting.{count-ext, count-none, SameCover, total-same, total-more, contribution-same, contribution-new, contribution-more}
+use Rattle.hypervolume.proofs.Counting.{count-none, SameCover, total-same, total-more, contribution-same, contribution-new, contribution-more}
 use Rattle.hypervolume.proofs.Axes.{FirstAtMost, gain-layers, joint-layers}
-use Rattle.sweep.specs.Points.{Ascending}
-use Rattle.sweep.specs.Line.{entryOf, xOf, yOf, indexOf, spot, tally, over, overBy, gainOver, sharedWith, insertAt}
-use Rattle.sweep.proofs.Tallies.{tally-insert}
-use Rattle.sweep.proofs.Placings.{insert-length, insert-all}
+use Rattle.sweep.specs.Line.{entryOf, xOf, yOf, indexOf, spot, tally, over, overBy, gainOver, sharedWith, Rising, Flagged, Kept, Alike}
+use Rattle.sweep.specs.Entries.{Below}
+use Rattle.sweep.proofs.Flags.{over-cons}
 
--- The entries of the line are the trials, seen along z.
-unfoldable pub Holds : List ℕ → List (List ℕ) → Type 0
-Holds line trials = (c : List ℕ) → over line c ≡ cover trials c
+-- The line counts as the trials do, seen along z, in the rows below ry, where two are as good as more.
+unfoldable pub Holds : ℕ → List ℕ → List (List ℕ) → Type 0
+Holds ry line trials = (i j : ℕ) → j < ry → min (over line (i ∷ j ∷ [])) 2 ≡ min (cover trials (i ∷ j ∷ [])) 2
 
--- The entry of index j is the trial t.
-unfoldable pub HoldsAt : ℕ → List ℕ → List ℕ → Type 0
-HoldsAt j line t = (c : List ℕ) → overBy j line c ≡ holds (dominates t c)
+-- Where there is at most one entry over a cell, the entry of index t is over it just where the trial is.
+unfoldable pub HoldsAt : ℕ → ℕ → List ℕ → List ℕ → Type 0
+HoldsAt ry t line trial = (i j : ℕ) → j < ry → over line (i ∷ j ∷ []) ≤ 1 → overBy t line (i ∷ j ∷ []) ≡ holds (dominates trial (i ∷ j ∷ []))
+
+-- Counts of a layer, cell by cell.
+count-layer : (rx ry : ℕ) (p q : List ℕ → Bool) → ((i j : ℕ) → j < ry → p (i ∷ j ∷ []) ≡ q (i ∷ j ∷ [])) → count (rx ∷ ry ∷ []) p ≡ count (rx ∷ ry ∷ []) q
+unfolding count cells
+count-layer rx ry p q h =
+    sum-ext rx _ _ (λ i l. sum-ext ry _ _ (λ j m. ap holds (h i j m)))
+
+none-alike : (k n : ℕ) → min k 2 ≡ min n 2 → eqb k 0 ≡ eqb n 0
+none-alike k n e = go (eqb k 0) (eqb n 0) (equated k 0) (equated n 0)
+  where
+    go : (a b : Bool) → Equated k 0 a → Equated n 0 b → a ≡ b
+    go true true p q = refl
+    go false false p q = refl
+    go true false (same p) (differs q) = absurd (let no′ : ⊥ = q (omega arith) in no′)
+    go false true (differs p) (same q) = absurd (let no′ : ⊥ = p (omega arith) in no′)
+
+pub gainOver-gain : (rx ry : ℕ) (line : List ℕ) (trials : List (List ℕ)) (p : List ℕ) → Holds ry line trials → gainOver (rx ∷ ry ∷ []) line p ≡ gain (rx ∷ ry ∷ []) trials p
+unfolding gainOver gain Holds
+gainOver-gain rx ry line trials p h =
+    count-layer rx ry _ _
+    (λ i j l. ap (both (dominates p (i ∷ j ∷ []))) (none-alike (over line (i ∷ j ∷ [])) (cover trials (i ∷ j ∷ [])) (h i j l)))
+
+jointly : (p t : Bool) (n k b : ℕ) → min n 2 ≡ min k 2 → (n ≤ 1 → b ≡ holds t) → both p (both (eqb n 1) (leb 1 b)) ≡ both p (both t (eqb (holds p + k) 2))
+unfolding both holds
+jointly false t n k b e f = refl
+jointly true t n k b e f = rw (one-add k, eqb·suc-suc k 1) (go t (eqb n 1) (eqb k 1) (equated n 1) (equated k 1) f)
+  where
+    go : (t c d : Bool) → Equated n 1 c → Equated k 1 d → (n ≤ 1 → b ≡ holds t) → both c (leb 1 b) ≡ both t d
+    go t true false (same p) (differs q) f = absurd (let no′ : ⊥ = q (omega arith) in no′)
+    go t false true (differs p) (same q) f = absurd (let no′ : ⊥ = p (omega arith) in no′)
+    go t false false p q f = sym (both-comm t false)
+    go true true true (same p) q f = rw (f (omega arith))
+    go false true true (same p) q f = rw (f (omega arith))
+
+pub sharedWith-joint : (rx ry : ℕ) (line : List ℕ) (trials : List (List ℕ)) (p t : List ℕ) (j : ℕ) → Holds ry line trials → HoldsAt ry j line t → sharedWith (rx ∷ ry ∷ []) line p j ≡ joint (rx ∷ ry ∷ []) (p ∷ trials) p t
+unfolding sharedWith joint cover Holds HoldsAt
+sharedWith-joint rx ry line trials p t j h o =
+    count-layer rx ry _ _
+    (λ i k l. jointly (dominates p (i ∷ k ∷ [])) (dominates t (i ∷ k ∷ [])) (over line (i ∷ k ∷ [])) (cover trials (i ∷ k ∷ [])) (overBy j line (i ∷ k ∷ [])) (h i k l) (o i k l))
 
 -- No entry has the index j.
-unfoldable pub Lacks : ℕ → List ℕ → Type 0
-Lacks j line = (c : List ℕ) → overBy j line c ≡ 0
+pub overBy-none : (n j : ℕ) (line c : List ℕ) → Below n line → n ≤ j → overBy j line c ≡ 0
+unfolding overBy tally Below both holds
+overBy-none n j [] c b l = refl
+overBy-none n j (w ∷ line) c b l =
+    rw (ne-eqb (indexOf w) j (λ e. omega (arith, b .0)), overBy-none n j line c (b .1) l)
 
-pub gainOver-gain : (r line : List ℕ) (trials : List (List ℕ)) (p : List ℕ) → Holds line trials → gainOver r line p ≡ gain r trials p
-unfolding gainOver gain Holds
-gainOver-gain r line trials p h = count-ext r _ _ (λ c. ap (λ k. both (dominates p c) (eqb k 0)) (h c))
-
-jointly : (p t : Bool) (k : ℕ) → both p (both (eqb k 1) (leb 1 (holds t))) ≡ both p (both t (eqb (holds p + k) 2))
-unfolding both holds
-jointly false t k = refl
-jointly true true k = both-comm (eqb k 1) true ∙ sym (rw (one-add k) (eqb·suc-suc k 1))
-jointly true false k = both-comm (eqb k 1) false
-
-pub sharedWith-joint : (r line : List ℕ) (trials : List (List ℕ)) (p t : List ℕ) (j : ℕ) → Holds line trials → HoldsAt j line t → sharedWith r line p j ≡ joint r (p ∷ trials) p t
-unfolding sharedWith joint cover Holds HoldsAt
-sharedWith-joint r line trials p t j h o =
-    count-ext r _ _ (λ c. rw (h c, o c) (jointly (dominates p c) (dominates t c) (cover trials c)))
-
-pub sharedWith-none : (r line p : List ℕ) (j : ℕ) → Lacks j line → sharedWith r line p j ≡ 0
-unfolding sharedWith Lacks both
-sharedWith-none r line p j o =
-    count-none r _ (λ c. rw (o c) (closed (dominates p c) (eqb (over line c) 1)))
+pub sharedWith-none : (n j : ℕ) (r line p : List ℕ) → Below n line → n ≤ j → sharedWith r line p j ≡ 0
+unfolding sharedWith both
+sharedWith-none n j r line p b l =
+    count-none r _ (λ c. rw (overBy-none n j line c b l) (closed (dominates p c) (eqb (over line c) 1)))
   where
     closed : (a b : Bool) → both a (both b false) ≡ false
     closed a b = rw (both-comm b false) (both-comm a false)
@@ -68,82 +95,89 @@ module _ (x y index : ℕ) (y-small : y ≤ 1048576) (index-small : index < 512)
   pub index-entry : indexOf (entryOf x y index) ≡ index
   index-entry = omega arith
 
--- The line holds the points passed, z first, each with its index in the list.
-pub record Lined (trials : List (List ℕ)) (line : List ℕ) : Type 0 where
-  pub rising : Ascending line
-  pub all : Holds line (map rest trials)
-  pub each : (j : ℕ) → j < length trials → HoldsAt j line (rest (getD trials j []))
-  pub others : (j : ℕ) → length trials ≤ j → Lacks j line
-  pub indices : (k : ℕ) → k < length line → indexOf (getD line k 0) < length trials
+-- The line stands for the points passed, z first, each with its index in the list.
+pub record Lined (ry : ℕ) (trials : List (List ℕ)) (line : List ℕ) : Type 0 where
+  pub kept : Kept line
+  pub all : Holds ry line (map rest trials)
+  pub each : (j : ℕ) → j < length trials → HoldsAt ry j line (rest (getD trials j []))
+  pub below : Below (length trials) line
 
-pub lined-none : Lined [] []
-unfolding Holds Lacks over overBy tally cover
-lined-none =
+pub lined-none : (ry : ℕ) → Lined ry [] []
+unfolding Holds over tally cover Below Rising Flagged
+lined-none ry =
     record {
-      rising = λ k l. absurd (let no′ : ⊥ = omega arith in no′);
-      all = λ c. refl;
+      kept = record { rising = tt; flags = tt };
+      all = λ i j l. refl;
       each = λ j l. absurd (let no′ : ⊥ = omega arith in no′);
-      others = λ j l c. refl;
-      indices = λ k l. absurd (let no′ : ⊥ = omega arith in no′);
+      below = tt;
     }
 
--- One more point, put in the line at `at`.
-module _ {trials : List (List ℕ)} {line : List ℕ} (h : Lined trials line) (z x y at : ℕ) (y-small : y ≤ 1048576) (few : length trials < 512) (fits : at ≤ length line) where
+pub below-lift : (m n : ℕ) (line : List ℕ) → m ≤ n → Below m line → Below n line
+unfolding Below
+below-lift m n [] l b = tt
+below-lift m n (w ∷ line) l b = (omega (arith, b .0), below-lift m n line l (b .1))
+
+pub below-at : (n : ℕ) (line : List ℕ) → 0 < n → Below n line → (k : ℕ) → indexOf (getD line k 0) < n
+unfolding Below
+below-at n [] l b k = l
+below-at n (w ∷ line) l b zero = b .0
+below-at n (w ∷ line) l b (suc k) = below-at n line l (b .1) k
+
+-- One more point: a line that counts as the old one with its entry.
+module _ {ry : ℕ} {trials : List (List ℕ)} {line : List ℕ} (h : Lined ry trials line) (z x y : ℕ) (y-small : y ≤ 1048576) (few : length trials < 512) where
   p : List ℕ
   p = z ∷ x ∷ y ∷ []
 
-  w : ℕ
+  abbrev w : ℕ
   w = entryOf x y (length trials)
 
-  over-more : (c : List ℕ) → over (insertAt at w line) c ≡ over line c + holds (dominates (x ∷ y ∷ []) c)
-  unfolding over w
-  over-more c =
-      tally-insert (λ v. dominates (spot v) c) at w line
-      ∙ rw (spot-entry x y (length trials) y-small few) (add-comm (holds (dominates (x ∷ y ∷ []) c)) (tally (λ v. dominates (spot v) c) line))
+  over-more : (c : List ℕ) → over (w ∷ line) c ≡ holds (dominates (x ∷ y ∷ []) c) + over line c
+  over-more c = rw (over-cons (entryOf x y (length trials)) line c, spot-entry x y (length trials) y-small few)
 
-  overBy-more : (j : ℕ) (c : List ℕ) → overBy j (insertAt at w line) c ≡ overBy j line c + holds (both (eqb (length trials) j) (dominates (x ∷ y ∷ []) c))
-  unfolding overBy w
+  overBy-more : (j : ℕ) (c : List ℕ) → overBy j (w ∷ line) c ≡ holds (both (eqb (length trials) j) (dominates (x ∷ y ∷ []) c)) + overBy j line c
+  unfolding overBy tally
   overBy-more j c =
-      tally-insert (λ v. both (eqb (indexOf v) j) (dominates (spot v) c)) at w line
-      ∙ rw (spot-entry x y (length trials) y-small few, index-entry x y (length trials) y-small few)
-      (add-comm (holds (both (eqb (length trials) j) (dominates (x ∷ y ∷ []) c))) (tally (λ v. both (eqb (indexOf v) j) (dominates (spot v) c)) line))
+      rw (spot-entry x y (length trials) y-small few, index-entry x y (length trials) y-small few)
 
-  overBy-other : (j : ℕ) (c : List ℕ) → (length trials ≡ j → ⊥) → overBy j (insertAt at w line) c ≡ overBy j line c
-  unfolding both holds
-  overBy-other j c n = overBy-more j c ∙ rw (ne-eqb (length trials) j n) (add-zero (overBy j line c))
+  cover-next : (c : List ℕ) → cover (map rest (trials ++ (p ∷ []))) c ≡ cover (map rest trials) c + holds (dominates (x ∷ y ∷ []) c)
+  unfolding p rest cover
+  cover-next c =
+      rw (map-append rest trials (p ∷ []), cover-append (map rest trials) ((x ∷ y ∷ []) ∷ []) c)
+      (ap (λ k. cover (map rest trials) c + k) (add-zero (holds (dominates (x ∷ y ∷ []) c))))
 
-  each-more : (j : ℕ) → j < length (trials ++ (p ∷ [])) → Dec (j < length trials) → HoldsAt j (insertAt at w line) (rest (getD (trials ++ (p ∷ [])) j []))
-  unfolding HoldsAt Lacks both holds p rest
-  each-more j l (yes a) c =
-      rw (List·getD-append trials (p ∷ []) [] j a)
-      (overBy-other j c (λ e. omega arith) ∙ h .each j a c)
-  each-more j l (no a) c =
-      let last : j ≡ length trials = omega (arith, length-append trials (p ∷ [])) in
-      rw (last, getD-append-seam trials p [] [])
-      (overBy-more (length trials) c
-      ∙ rw (eq-eqb (length trials) (length trials) refl, h .others (length trials) (omega arith) c)
-      (zero-add (holds (dominates (x ∷ y ∷ []) c))))
+  module _ {left : List ℕ} (kept : Kept left) (alike : Alike ry (entryOf x y (length trials) ∷ line) left) (below′ : Below (suc (length trials)) left) where
+    -- where at most one entry is over a cell now, at most one was before
+    few-before : (i j : ℕ) → j < ry → over left (i ∷ j ∷ []) ≤ 1 → over (w ∷ line) (i ∷ j ∷ []) ≤ 1
+    few-before i j l m = omega (arith, alike i j l .many)
 
-  pub lined-more : Ascending (insertAt at (entryOf x y (length trials)) line) → Lined (trials ++ ((z ∷ x ∷ y ∷ []) ∷ [])) (insertAt at (entryOf x y (length trials)) line)
-  unfolding Holds Lacks w p rest cover
-  lined-more up =
-      record {
-        rising = up;
-        all = λ c.
-            over-more c
-            ∙ rw (map-append rest trials (p ∷ []), cover-append (map rest trials) ((x ∷ y ∷ []) ∷ []) c, h .all c)
-            (ap (λ k. cover (map rest trials) c + k) (sym (add-zero (holds (dominates (x ∷ y ∷ []) c)))));
-        each = λ j l. each-more j l (decLe (suc j) (length trials));
-        others = λ j l c.
-            let more : length trials < j = omega (arith, length-append trials (p ∷ [])) in
-            overBy-other j c (λ e. omega arith) ∙ h .others j (omega arith) c;
-        indices = λ k l.
-            insert-all at w line fits (λ v. indexOf v < length (trials ++ (p ∷ [])))
-            (rw (index-entry x y (length trials) y-small few) (omega (arith, length-append trials (p ∷ []))))
-            (λ a m. omega (arith, h .indices a m, length-append trials (p ∷ [])))
-            k
-            (omega (arith, insert-length at w line fits));
-      }
+    each-more : (t : ℕ) → t < length (trials ++ (p ∷ [])) → Dec (t < length trials) → HoldsAt ry t left (rest (getD (trials ++ (p ∷ [])) t []))
+    unfolding HoldsAt both holds p rest
+    each-more t l (yes a) i j m o =
+        let one : over (w ∷ line) (i ∷ j ∷ []) ≤ 1 = few-before i j m o in
+        rw (List·getD-append trials (p ∷ []) [] t a)
+        (alike i j m .whose t one
+        ∙ overBy-more t (i ∷ j ∷ [])
+        ∙ rw (ne-eqb (length trials) t (λ e. omega arith)) (zero-add (overBy t line (i ∷ j ∷ [])))
+        ∙ h .each t a i j m (omega (arith, over-more (i ∷ j ∷ []))))
+    each-more t l (no a) i j m o =
+        let last : t ≡ length trials = omega (arith, length-append trials (p ∷ [])) in
+        rw (last, getD-append-seam trials p [] [])
+        (alike i j m .whose (length trials) (few-before i j m o)
+        ∙ overBy-more (length trials) (i ∷ j ∷ [])
+        ∙ rw (eq-eqb (length trials) (length trials) refl, overBy-none (length trials) (length trials) line (i ∷ j ∷ []) (h .below) (omega arith))
+        (add-zero (holds (dominates (x ∷ y ∷ []) (i ∷ j ∷ [])))))
+
+    pub lined-more : Lined ry (trials ++ ((z ∷ x ∷ y ∷ []) ∷ [])) left
+    unfolding Holds p
+    lined-more =
+        record {
+          kept = kept;
+          all = λ i j l.
+              let before : min (over line (i ∷ j ∷ [])) 2 ≡ min (cover (map rest trials) (i ∷ j ∷ [])) 2 = h .all i j l in
+              omega (arith, alike i j l .many, over-more (i ∷ j ∷ []), cover-next (i ∷ j ∷ []));
+          each = λ t l. each-more t l (decLe (suc t) (length trials));
+          below = rw (length-append trials (p ∷ []), add-one (length trials)) below′;
+        }
 
 first-at : (z : ℕ) (trials : List (List ℕ)) → FirstAtMost z trials → (j : ℕ) → j < length trials → first (getD trials j []) ≤ z
 unfolding FirstAtMost
@@ -158,7 +192,7 @@ at-first z (t ∷ trials) h = (h 0 (omega arith), at-first z trials (λ j l. h (
 
 -- The next point q of the sweep, whose z is no less than that of any point passed: each of its counts is the height of
 -- its layers times the count of the line (law 7), and the counts of the points passed move by them (laws 1 and 2).
-module _ {trials : List (List ℕ)} {line : List ℕ} (h : Lined trials line) (rz rx ry z x y : ℕ) (under : FirstAtMost z trials) where
+module _ {ry : ℕ} {trials : List (List ℕ)} {line : List ℕ} (h : Lined ry trials line) (rz rx z x y : ℕ) (under : FirstAtMost z trials) where
   reference : List ℕ
   reference = rz ∷ rx ∷ ry ∷ []
 
@@ -175,13 +209,13 @@ module _ {trials : List (List ℕ)} {line : List ℕ} (h : Lined trials line) (r
   unfolding reference q
   next-gain =
       gain-layers rz (rx ∷ ry ∷ []) trials z (x ∷ y ∷ []) under
-      ∙ rw (gainOver-gain (rx ∷ ry ∷ []) line (map rest trials) (x ∷ y ∷ []) (h .all))
+      ∙ rw (gainOver-gain rx ry line (map rest trials) (x ∷ y ∷ []) (h .all))
 
   next-joint : (j : ℕ) → j < length trials → joint reference (q ∷ trials) q (getD trials j []) ≡ (rz - z) * sharedWith (rx ∷ ry ∷ []) line (x ∷ y ∷ []) j
   unfolding reference q
   next-joint j l =
       joint-layers rz (rx ∷ ry ∷ []) trials z (x ∷ y ∷ []) (getD trials j []) under (first-at z trials under j l)
-      ∙ rw (sharedWith-joint (rx ∷ ry ∷ []) line (map rest trials) (x ∷ y ∷ []) (rest (getD trials j [])) j (h .all) (h .each j l))
+      ∙ rw (sharedWith-joint rx ry line (map rest trials) (x ∷ y ∷ []) (rest (getD trials j [])) j (h .all) (h .each j l))
 
   pub next-total : total (rz ∷ rx ∷ ry ∷ []) (trials ++ ((z ∷ x ∷ y ∷ []) ∷ [])) ≡ total (rz ∷ rx ∷ ry ∷ []) trials + (rz - z) * gainOver (rx ∷ ry ∷ []) line (x ∷ y ∷ [])
   unfolding reference q

@@ -4,6 +4,11 @@ pub mod Lists
 pub mod Placings
 pub mod Tallies
 pub mod Columns
+pub mod Orders
+pub mod Flags
+pub mod Looks
+pub mod Thinnings
+pub mod Entrances
 pub mod Crossings
 pub mod Coordinates
 pub mod Layers

@@ -1,13 +1,13 @@
--- Placing one more entry in the line: the larger entries move up by one place, from the last on.
+-- Words of the line moved: up by one place, to put an entry in, and down, to close a gap.
 use Prim.Native.Nat.{ℕ, zero, suc, _+_, _-_, _≤_, _<_}
-use mathlib.Core.Path.{_≡_, refl, sym, _∙_}
-use mathlib.Core.List.{List, _∷_}
+use mathlib.Core.Path.{_≡_, refl, sym, ap, _∙_}
+use mathlib.Core.List.{List, _∷_, _++_}
 use native.Mathlib.Decide.{decLe, ℕ-discrete}
 use native.Mathlib.Omega.{arith}
-use lib.ListN.{length, take, drop, getD, set, length-append, length-take, length-drop, length-set, List·getD-append}
-use lib.Seq.{length-take-le, getD-take, getD-drop, getD-at, getD-append-add, getD-set-same, getD-set-other, ext-getD}
-use Rattle.sweep.specs.Points.{Ascending}
-use Rattle.sweep.specs.Line.{insertAt, Placing, Placed}
+use lib.ListN.{length, take, drop, getD, set, length-append, length-take, length-drop, length-set, take-append-drop, List·getD-append}
+use lib.Seq.{length-take-le, getD-take, getD-drop, getD-at, getD-append-add, getD-set-same, getD-set-other, take-take, ext-getD}
+use Rattle.sweep.specs.Line.{insertAt}
+use Rattle.sweep.specs.Entries.{Closed}
 
 -- What stands where in a list with one more entry.
 module _ (at w : ℕ) (l : List ℕ) (fits : at ≤ length l) where
@@ -28,152 +28,174 @@ module _ (at w : ℕ) (l : List ℕ) (fits : at ≤ length l) where
       let back : at + (k - at) ≡ k = omega arith in
       rw (split, getD-append-add (take at l) (w ∷ drop at l) (suc (k - at)) 0, getD-drop at l (k - at) 0, back)
 
-  -- What holds of the entry and of every number of the list holds of every number of the new list.
-  pub insert-all : (P : ℕ → Type 0) → P w → ((k : ℕ) → k < length l → P (getD l k 0)) → (k : ℕ) → k < suc (length l) → P (getD (insertAt at w l) k 0)
-  insert-all P p h k m = go k m (decLe (suc k) at) (decLe k at)
-    where
-      go : (k : ℕ) → k < suc (length l) → Dec (suc k ≤ at) → Dec (k ≤ at) → P (getD (insertAt at w l) k 0)
-      go k m (yes a) b = rw (insert-before k a) (h k (omega arith))
-      go k m (no a) (yes b) = let same : k ≡ at = omega arith in rw (same, insert-here) p
-      go zero m (no a) (no b) = absurd (let no′ : ⊥ = omega arith in no′)
-      go (suc k) m (no a) (no b) = rw (insert-after k (omega arith)) (h k (omega arith))
-
-  -- The list still ascends, where its neighbours let the entry in.
-  pub insert-ascending : Ascending l → ((k : ℕ) → suc k ≡ at → getD l k 0 ≤ w) → (at < length l → w ≤ getD l at 0) → Ascending (insertAt at w l)
-  insert-ascending h low high k p = go (decLe (suc k) at) (decLe at k)
-    where
-      go : Dec (suc k ≤ at) → Dec (at ≤ k) → getD (insertAt at w l) k 0 ≤ getD (insertAt at w l) (suc k) 0
-      go (yes a) b = rw (insert-before k a) (next (decLe (suc (suc k)) at))
-        where
-          next : Dec (suc (suc k) ≤ at) → getD l k 0 ≤ getD (insertAt at w l) (suc k) 0
-          next (yes c) = rw (insert-before (suc k) c) (h k (omega arith))
-          next (no c) = let same : suc k ≡ at = omega arith in rw (same, insert-here) (low k same)
-      go (no a) (no b) = absurd (let no′ : ⊥ = omega arith in no′)
-      go (no a) (yes b) = rw (insert-after k b) (prior k b (decLe k at) (omega (arith, insert-length)))
-        where
-          prior : (k : ℕ) → at ≤ k → Dec (k ≤ at) → k < length l → getD (insertAt at w l) k 0 ≤ getD l k 0
-          prior k b (yes c) d = let same : k ≡ at = omega arith in rw (same, insert-here) (high (omega arith))
-          prior zero b (no c) d = absurd (let no′ : ⊥ = omega arith in no′)
-          prior (suc k) b (no c) d = rw (insert-after k (omega arith)) (h k d)
-
--- The line `line` has come from `old` by moving up the entries from `at` on, all of them larger.
-pub record Shifted (old : List ℕ) (m entry : ℕ) (line : List ℕ) (at : ℕ) : Type 0 where
-  pub within : at ≤ m
+-- The entries from k up to m have moved up by one place.
+pub record Shifted (old : List ℕ) (m at : ℕ) (line : List ℕ) (k : ℕ) : Type 0 where
+  pub room : m < length old
+  pub front : at ≤ k
+  pub within : k ≤ m
   pub alike : length line ≡ length old
-  pub kept : (k : ℕ) → k < at → getD line k 0 ≡ getD old k 0
-  pub moved : (k : ℕ) → at ≤ k → k < m → getD line (suc k) 0 ≡ getD old k 0
-  pub larger : (k : ℕ) → at ≤ k → k < m → entry ≤ getD old k 0
+  pub kept : (j : ℕ) → j < k → getD line j 0 ≡ getD old j 0
+  pub moved : (j : ℕ) → k ≤ j → j < m → getD line (suc j) 0 ≡ getD old j 0
 
-pub shifted-none : (old : List ℕ) (m entry : ℕ) → Shifted old m entry old m
-shifted-none old m entry =
+pub shifted-none : (old : List ℕ) (m at : ℕ) → at ≤ m → m < length old → Shifted old m at old m
+shifted-none old m at l r =
     record {
+      room = r;
+      front = l;
       within = omega arith;
       alike = refl;
-      kept = λ k l. refl;
-      moved = λ k l n. absurd (let no′ : ⊥ = omega arith in no′);
-      larger = λ k l n. absurd (let no′ : ⊥ = omega arith in no′);
+      kept = λ j n. refl;
+      moved = λ j n o. absurd (let no′ : ⊥ = omega arith in no′);
     }
 
-pub shifted-more : {old : List ℕ} {m entry : ℕ} {line : List ℕ} {at : ℕ} → Placing old m → Shifted old m entry line at → 0 < at → entry < getD line (at - 1) 0 → Shifted old m entry (set line at (getD line (at - 1) 0)) (at - 1)
-shifted-more {old} {m} {entry} {line} {at} p h l e =
-    let v = getD line (at - 1) 0 in
-    let up : suc (at - 1) ≡ at = omega arith in
-    let inside : at < length line = omega arith in
-    let same : v ≡ getD old (at - 1) 0 = h .kept (at - 1) (omega arith) in
+pub shifted-more : {old : List ℕ} {m at : ℕ} {line : List ℕ} {k : ℕ} → Shifted old m at line k → at < k → Shifted old m at (set line k (getD line (k - 1) 0)) (k - 1)
+shifted-more {old} {m} {at} {line} {k} h l =
     record {
-      within = omega arith;
-      alike = length-set line at v ∙ h .alike;
-      kept = λ k n. getD-set-other line at k v 0 (λ q. omega arith) ∙ h .kept k (omega arith);
-      moved = λ k n o. moved k n o (ℕ-discrete (suc k) at);
-      larger = λ k n o. larger k n o (ℕ-discrete (suc k) at);
+      room = h .room;
+      front = omega arith;
+      within = omega (arith, h .within);
+      alike = length-set line k v ∙ h .alike;
+      kept = λ j n. getD-set-other line k j v 0 (λ q. omega arith) ∙ h .kept j (omega arith);
+      moved = λ j n o. moved j n o (ℕ-discrete (suc j) k);
     }
   where
-    moved : (k : ℕ) → at - 1 ≤ k → k < m → Dec (suc k ≡ at) → getD (set line at (getD line (at - 1) 0)) (suc k) 0 ≡ getD old k 0
-    moved k n o (yes q) =
-        let back : at - 1 ≡ k = omega arith in
-        let inside : at < length line = omega arith in
-        rw (q, getD-set-same line at (getD line (at - 1) 0) 0 inside, back) (h .kept k (omega arith))
-    moved k n o (no q) = getD-set-other line at (suc k) (getD line (at - 1) 0) 0 q ∙ h .moved k (omega arith) o
+    v : ℕ
+    v = getD line (k - 1) 0
 
-    larger : (k : ℕ) → at - 1 ≤ k → k < m → Dec (suc k ≡ at) → entry ≤ getD old k 0
-    larger k n o (yes q) =
-        let back : at - 1 ≡ k = omega arith in
-        let same : getD line (at - 1) 0 ≡ getD old (at - 1) 0 = h .kept (at - 1) (omega arith) in
-        rw (← back) (omega arith)
-    larger k n o (no q) = h .larger k (omega arith) o
+    moved : (j : ℕ) → k - 1 ≤ j → j < m → Dec (suc j ≡ k) → getD (set line k v) (suc j) 0 ≡ getD old j 0
+    moved j n o (yes q) =
+        let back : k - 1 ≡ j = omega arith in
+        let inside : k < length line = omega (arith, h .within, h .alike, h .room) in
+        rw (q, getD-set-same line k v 0 inside, back) (h .kept j (omega arith))
+    moved j n o (no q) = getD-set-other line k (suc j) v 0 q ∙ h .moved j (omega arith) o
 
--- The entry goes to `at`, where the one before it is not larger.
-module _ {old : List ℕ} {m entry : ℕ} {line : List ℕ} {at : ℕ} (p : Placing old m) (h : Shifted old m entry line at) (e : 0 < at → getD line (at - 1) 0 ≤ entry) where
-  left : List ℕ
-  left = set line at entry
+-- The entry goes to `at`.
+pub shifted-end : {old : List ℕ} {m at : ℕ} {line : List ℕ} {k : ℕ} (entry : ℕ) → Shifted old m at line k → k ≤ at → take (m + 1) (set line at entry) ≡ insertAt at entry (take m old)
+shifted-end {old} {m} {at} {line} {k} entry h l =
+    ext-getD 0 (take (m + 1) (set line at entry)) (insertAt at entry (take m old))
+    (omega (arith, taken, insert-length at entry (take m old) fits, first-long))
+    (λ j n.
+    let inside : j < m + 1 = omega (arith, taken) in
+    getD-take (m + 1) (set line at entry) j 0 inside ∙ cases j inside (decLe (suc j) at) (decLe j at))
+  where
+    same : k ≡ at
+    same = omega (arith, h .front)
 
-  first : List ℕ
-  first = take m old
+    first-long : length (take m old) ≡ m
+    first-long = length-take-le m old (omega (arith, h .room))
 
-  first-long : length first ≡ m
-  unfolding first
-  first-long = length-take-le m old (omega arith)
+    fits : at ≤ length (take m old)
+    fits = omega (arith, first-long, h .front, h .within)
 
-  at-here : getD left at 0 ≡ entry
-  unfolding left
-  at-here = getD-set-same line at entry 0 (let q : at < length line = omega arith in q)
+    taken : length (take (m + 1) (set line at entry)) ≡ m + 1
+    taken = length-take-le (m + 1) (set line at entry) (omega (arith, length-set line at entry, h .alike, h .room))
 
-  at-before : (k : ℕ) → k < at → getD left k 0 ≡ getD first k 0
-  unfolding left first
-  at-before k l =
-      getD-set-other line at k entry 0 (λ q. omega arith)
-      ∙ h .kept k l
-      ∙ sym (getD-take m old k 0 (omega arith))
+    cases : (j : ℕ) → j < m + 1 → Dec (suc j ≤ at) → Dec (j ≤ at) → getD (set line at entry) j 0 ≡ getD (insertAt at entry (take m old)) j 0
+    cases j n (yes a) b =
+        getD-set-other line at j entry 0 (λ q. omega arith)
+        ∙ h .kept j (omega (arith, same))
+        ∙ sym (insert-before at entry (take m old) fits j a ∙ getD-take m old j 0 (omega (arith, h .front, h .within)))
+    cases j n (no a) (yes b) =
+        let here : j ≡ at = omega arith in
+        rw here
+        (getD-set-same line at entry 0 (omega (arith, h .alike, h .room, h .front, h .within))
+        ∙ sym (insert-here at entry (take m old) fits))
+    cases zero n (no a) (no b) = absurd (let no′ : ⊥ = omega arith in no′)
+    cases (suc j) n (no a) (no b) =
+        getD-set-other line at (suc j) entry 0 (λ q. omega arith)
+        ∙ h .moved j (omega (arith, same)) (omega arith)
+        ∙ sym (insert-after at entry (take m old) fits j (omega arith) ∙ getD-take m old j 0 (omega arith))
 
-  at-after : (k : ℕ) → at ≤ k → k < m → getD left (suc k) 0 ≡ getD first k 0
-  unfolding left first
-  at-after k l n =
-      getD-set-other line at (suc k) entry 0 (λ q. omega arith)
-      ∙ h .moved k l n
-      ∙ sym (getD-take m old k 0 n)
+-- The first i of the entries from `from` on have moved down to `to`.
+pub record Closing (old : List ℕ) (to from m : ℕ) (line : List ℕ) (i : ℕ) : Type 0 where
+  pub gap : to ≤ from
+  pub within : from + i ≤ m
+  pub room : m ≤ length old
+  pub alike : length line ≡ length old
+  pub before : (j : ℕ) → j < to → getD line j 0 ≡ getD old j 0
+  pub moved : (j : ℕ) → j < i → getD line (to + j) 0 ≡ getD old (from + j) 0
+  pub after : (j : ℕ) → to + i ≤ j → getD line j 0 ≡ getD old j 0
 
-  pub placed-at : Placed old m entry (set line at entry) at
-  unfolding left first
-  placed-at = record { within = h .within; placed = whole; rising = rw whole rising }
-    where
-      fits : at ≤ length first
-      fits = omega (arith, first-long)
+pub closing-none : (old : List ℕ) (to from m : ℕ) → to ≤ from → from ≤ m → m ≤ length old → Closing old to from m old 0
+closing-none old to from m p q r =
+    record {
+      gap = p;
+      within = omega arith;
+      room = r;
+      alike = refl;
+      before = λ j l. refl;
+      moved = λ j l. absurd (let no′ : ⊥ = omega arith in no′);
+      after = λ j l. refl;
+    }
 
-      cases : (k : ℕ) → k < m + 1 → Dec (suc k ≤ at) → Dec (k ≤ at) → getD left k 0 ≡ getD (insertAt at entry first) k 0
-      cases k l (yes a) b = at-before k a ∙ sym (insert-before at entry first fits k a)
-      cases k l (no a) (yes b) =
-          let same : k ≡ at = omega arith in
-          rw same (at-here ∙ sym (insert-here at entry first fits))
-      cases zero l (no a) (no b) = absurd (let no′ : ⊥ = omega arith in no′)
-      cases (suc k) l (no a) (no b) =
-          at-after k (omega arith) (omega arith)
-          ∙ sym (insert-after at entry first fits k (omega arith))
+pub closing-more : {old : List ℕ} {to from m : ℕ} {line : List ℕ} {i : ℕ} → Closing old to from m line i → i < m - from → Closing old to from m (set line (to + i) (getD line (from + i) 0)) (i + 1)
+closing-more {old} {to} {from} {m} {line} {i} h l =
+    record {
+      gap = h .gap;
+      within = omega arith;
+      room = h .room;
+      alike = length-set line (to + i) v ∙ h .alike;
+      before = λ j n. getD-set-other line (to + i) j v 0 (λ q. omega arith) ∙ h .before j n;
+      moved = λ j n. moved j n (decLe (suc j) i);
+      after = λ j n. getD-set-other line (to + i) j v 0 (λ q. omega arith) ∙ h .after j (omega arith);
+    }
+  where
+    v : ℕ
+    v = getD line (from + i) 0
 
-      long : length left ≡ length old
-      long = length-set line at entry ∙ h .alike
+    moved : (j : ℕ) → j < i + 1 → Dec (j < i) → getD (set line (to + i) v) (to + j) 0 ≡ getD old (from + j) 0
+    moved j n (yes a) = getD-set-other line (to + i) (to + j) v 0 (λ q. omega arith) ∙ h .moved j a
+    moved j n (no a) =
+        let last : j ≡ i = omega arith in
+        rw (last, getD-set-same line (to + i) v 0 (omega (arith, h .gap, h .within, h .room, h .alike)))
+        (h .after (from + i) (omega (arith, h .gap)))
 
-      taken : length (take (m + 1) left) ≡ m + 1
-      taken = length-take-le (m + 1) left (omega (arith, long, p .room))
+pub closing-end : {old : List ℕ} {to from m : ℕ} {line : List ℕ} {i : ℕ} → Closing old to from m line i → m - from ≤ i → Closed old to from m line (to + (m - from))
+closing-end {old} {to} {from} {m} {line} {i} h l = record { ends = refl; joined = joined }
+  where
+    n : ℕ
+    n = m - from
 
-      whole : take (m + 1) left ≡ insertAt at entry first
-      whole =
-          ext-getD 0 (take (m + 1) left) (insertAt at entry first)
-          (omega (arith, taken, insert-length at entry first fits, first-long))
-          (λ k l.
-          let inside : k < m + 1 = omega (arith, taken) in
-          getD-take (m + 1) left k 0 inside ∙ cases k inside (decLe (suc k) at) (decLe k at))
+    all : i ≡ n
+    all = omega (arith, h .within)
 
-      before : (k : ℕ) → suc k ≡ at → getD first k 0 ≤ entry
-      before k q =
-          let back : at - 1 ≡ k = omega arith in
-          let held : getD line (at - 1) 0 ≤ entry = e (omega arith) in
-          let same : getD line k 0 ≡ getD first k 0 = h .kept k (omega arith) ∙ sym (getD-take m old k 0 (omega arith)) in
-          rw (← same, ← back) held
+    front-long : length (take to old) ≡ to
+    front-long = length-take-le to old (omega (arith, h .gap, h .within, h .room))
 
-      after : at < length first → entry ≤ getD first at 0
-      after q =
-          let inside : at < m = omega (arith, first-long) in
-          rw (getD-take m old at 0 inside) (h .larger at (omega arith) inside)
+    back-long : length (drop from (take m old)) ≡ n
+    back-long = length-drop from (take m old) ∙ ap (λ k. k - from) (length-take-le m old (h .room))
 
-      rising : Ascending (insertAt at entry first)
-      rising = insert-ascending at entry first fits (p .rising) before after
+    taken : length (take (to + n) line) ≡ to + n
+    taken = length-take-le (to + n) line (omega (arith, h .gap, h .within, h .room, h .alike))
+
+    cases : (j : ℕ) → j < to + n → Dec (j < to) → getD line j 0 ≡ getD (take to old ++ drop from (take m old)) j 0
+    cases j o (yes a) =
+        h .before j a
+        ∙ sym (List·getD-append (take to old) (drop from (take m old)) 0 j (omega (arith, front-long)) ∙ getD-take to old j 0 a)
+    cases j o (no a) =
+        let split : j ≡ to + (j - to) = omega arith in
+        let split′ : j ≡ length (take to old) + (j - to) = omega (arith, front-long) in
+        let inside : from + (j - to) < m = omega (arith, h .within) in
+        let left : getD line j 0 ≡ getD old (from + (j - to)) 0 = ap (λ k. getD line k 0) split ∙ h .moved (j - to) (omega (arith, all)) in
+        let right : getD (take to old ++ drop from (take m old)) j 0 ≡ getD old (from + (j - to)) 0 =
+        ap (λ k. getD (take to old ++ drop from (take m old)) k 0) split′
+        ∙ getD-append-add (take to old) (drop from (take m old)) (j - to) 0
+        ∙ getD-drop from (take m old) (j - to) 0
+        ∙ getD-take m old (from + (j - to)) 0 inside in
+        left ∙ sym right
+
+    joined : take (to + n) line ≡ take to old ++ drop from (take m old)
+    joined =
+        ext-getD 0 (take (to + n) line) (take to old ++ drop from (take m old))
+        (omega (arith, taken, length-append (take to old) (drop from (take m old)), front-long, back-long))
+        (λ j o.
+        let inside : j < to + n = omega (arith, taken) in
+        getD-take (to + n) line j 0 inside ∙ cases j inside (decLe (suc j) to))
+
+-- No gap.
+pub closed-none : (old : List ℕ) (to from m : ℕ) → to ≡ from → from ≤ m → Closed old to from m old m
+closed-none old to from m e l =
+    record {
+      ends = omega arith;
+      joined = rw (e, ← (take-take from m old l)) (sym (take-append-drop from (take m old)));
+    }

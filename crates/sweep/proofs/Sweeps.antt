@@ -6,22 +6,25 @@ use native.Mathlib.Nat.{mul-one, mul-zero}
 use native.Mathlib.Decide.{decLe}
 use native.Mathlib.Numerals.{add-one}
 use native.Mathlib.Omega.{arith}
-use lib.ListN.{length, take, drop, getD, set, length-set, length-take, length-map, List·getD-eq-default}
-use lib.Seq.{take-suc, take-all, getD-take, getD-set-same, getD-set-other, length-take-le}
+use lib.ListN.{length, take, drop, getD, set, length-set, length-take, length-map, take-append-drop, List·getD-eq-default}
+use lib.Seq.{take-suc, take-all, take-take, getD-take, getD-set-same, getD-set-other, length-take-le}
 use Rattle.hypervolume.specs.Cells.{box}
 use Rattle.hypervolume.specs.Counts.{total, contribution, contributions}
 use Rattle.hypervolume.proofs.Dominance.{first}
 use Rattle.hypervolume.proofs.Counting.{total-none, total-le-box}
 use Rattle.hypervolume.proofs.Axes.{FirstAtMost}
-use Rattle.sweep.specs.Points.{points, Ascending, Ready}
-use Rattle.sweep.specs.Line.{entryOf, indexOf, sharedWith, insertAt, Placing, Placed}
-use Rattle.sweep.specs.Strips.{Crossing, Crossed}
+use Rattle.sweep.specs.declared.column.Column.{Column}
+use Rattle.sweep.specs.Points.{points, Ready}
+use Rattle.sweep.specs.Line.{entryOf, xOf, indexOf, flagOf, sharedWith, Rising, Flagged, Ranked}
+use Rattle.sweep.specs.Strips.{Seen, Crossing, Crossed}
+use Rattle.sweep.specs.Entries.{Entering, Entered}
 use Rattle.sweep.proofs.Lists.{ascending-at, getD-mapped, front-then}
 use Rattle.sweep.proofs.Crossings.{three-fit}
+use Rattle.sweep.proofs.Flags.{flagged-front}
 use Rattle.sweep.proofs.Coordinates.{points-length, points-at, total-turned, contribution-turned}
-use Rattle.sweep.proofs.Layers.{Lined, lined-none, lined-more, at-first, sharedWith-none, next-total, next-own, next-other}
+use Rattle.sweep.proofs.Layers.{Lined, lined-none, lined-more, below-lift, below-at, at-first, sharedWith-none, next-total, next-own, next-other}
 
-pub record Progress (xs ys zs out : List ℕ) (rx ry rz i volume : ℕ) (line left : List ℕ) : Type 0 where
+pub record Progress (xs ys zs out : List ℕ) (rx ry rz i held volume : ℕ) (line left : List ℕ) : Type 0 where
   pub ready : Ready xs ys zs (rx ∷ ry ∷ rz ∷ []) out
   pub within : i ≤ length xs
   pub long : length line ≡ 512
@@ -29,7 +32,8 @@ pub record Progress (xs ys zs out : List ℕ) (rx ry rz i volume : ℕ) (line le
   pub counted : volume ≡ total (rz ∷ rx ∷ ry ∷ []) (take i (points zs xs ys))
   pub each : (j : ℕ) → j < i → getD left j 0 ≡ contribution (rz ∷ rx ∷ ry ∷ []) (take i (points zs xs ys)) (getD (points zs xs ys) j [])
   pub kept : (j : ℕ) → i ≤ j → getD left j 0 ≡ getD out j 0
-  pub lined : Lined (take i (points zs xs ys)) (take i line)
+  pub few : held ≤ i
+  pub lined : Lined ry (take i (points zs xs ys)) (take held line)
 
 -- a list of three numbers
 pub three : (r : List ℕ) → length r ≡ 3 → getD r 0 0 ∷ getD r 1 0 ∷ getD r 2 0 ∷ [] ≡ r
@@ -39,7 +43,7 @@ three (a ∷ b ∷ []) e = absurd (let no′ : ⊥ = omega arith in no′)
 three (a ∷ b ∷ c ∷ []) e = refl
 three (a ∷ b ∷ c ∷ d ∷ r) e = absurd (let no′ : ⊥ = omega arith in no′)
 
-pub progress-none : {xs ys zs r out : List ℕ} {line : List ℕ} → Ready xs ys zs r out → length r ≡ 3 → length line ≡ 512 → Progress xs ys zs out (getD r 0 0) (getD r 1 0) (getD r 2 0) 0 0 line out
+pub progress-none : {xs ys zs r out : List ℕ} {line : List ℕ} → Ready xs ys zs r out → length r ≡ 3 → length line ≡ 512 → Progress xs ys zs out (getD r 0 0) (getD r 1 0) (getD r 2 0) 0 0 0 line out
 progress-none {xs} {ys} {zs} {r} {out} h e f =
     record {
       ready = rw (three r e) h;
@@ -49,11 +53,12 @@ progress-none {xs} {ys} {zs} {r} {out} h e f =
       counted = sym (total-none (getD r 2 0 ∷ getD r 0 0 ∷ getD r 1 0 ∷ []));
       each = λ j l. absurd (let no′ : ⊥ = omega arith in no′);
       kept = λ j l. refl;
-      lined = lined-none;
+      few = omega arith;
+      lined = lined-none (getD r 1 0);
     }
 
 -- The next point, at i.
-module _ {xs ys zs out : List ℕ} {rx ry rz i volume : ℕ} {line left : List ℕ} (h : Progress xs ys zs out rx ry rz i volume line left) (l : i < length xs) where
+module _ {xs ys zs out : List ℕ} {rx ry rz i held volume : ℕ} {line left : List ℕ} (h : Progress xs ys zs out rx ry rz i held volume line left) (l : i < length xs) where
   ready : Ready xs ys zs (rx ∷ ry ∷ rz ∷ []) out
   ready = h .ready
 
@@ -94,52 +99,98 @@ module _ {xs ys zs out : List ℕ} {rx ry rz i volume : ℕ} {line left : List �
       rw (passed-at j before, all-at j (omega arith))
       (ascending-at zs (ready .rising) j i (omega arith) (omega (arith, ready))))
 
-  shared-at : (j : ℕ) → j < i → getD left j 0 ≡ contribution (rz ∷ rx ∷ ry ∷ []) (take (i + 1) (points zs xs ys)) (getD all j []) + (rz - getD zs i 0) * sharedWith (rx ∷ ry ∷ []) (take i line) (getD xs i 0 ∷ getD ys i 0 ∷ []) j
+  shared-at : (j : ℕ) → j < i → getD left j 0 ≡ contribution (rz ∷ rx ∷ ry ∷ []) (take (i + 1) (points zs xs ys)) (getD all j []) + (rz - getD zs i 0) * sharedWith (rx ∷ ry ∷ []) (take held line) (getD xs i 0 ∷ getD ys i 0 ∷ []) j
   unfolding all passed
   shared-at j m =
       h .each j m
       ∙ rw (next, ← (passed-at j m))
-      (next-other (h .lined) rz rx ry (getD zs i 0) (getD xs i 0) (getD ys i 0) under j (omega (arith, passed-many)))
+      (next-other (h .lined) rz rx (getD zs i 0) (getD xs i 0) (getD ys i 0) under j (omega (arith, passed-many)))
 
-  shared-none : (j : ℕ) → i ≤ j → sharedWith (rx ∷ ry ∷ []) (take i line) (getD xs i 0 ∷ getD ys i 0 ∷ []) j ≡ 0
+  shared-none : (j : ℕ) → i ≤ j → sharedWith (rx ∷ ry ∷ []) (take held line) (getD xs i 0 ∷ getD ys i 0 ∷ []) j ≡ 0
   unfolding passed
   shared-none j m =
-      sharedWith-none (rx ∷ ry ∷ []) (take i line) (getD xs i 0 ∷ getD ys i 0 ∷ []) j
-      (h .lined .others j (omega (arith, passed-many)))
+      sharedWith-none (length passed) j (rx ∷ ry ∷ []) (take held line) (getD xs i 0 ∷ getD ys i 0 ∷ []) (h .lined .below) (omega (arith, passed-many))
 
-  line-indices : (k : ℕ) → Dec (k < i) → indexOf (getD (take i line) k 0) < length left
+  line-indices : (k : ℕ) → indexOf (getD (take held line) k 0) < length left
   unfolding passed
-  line-indices k (yes a) =
-      omega (arith, h .lined .indices k (omega (arith, length-take i line)), passed-many, ready, h .alike)
-  line-indices k (no a) =
-      rw (List·getD-eq-default (take i line) 0 {n = k} (omega (arith, length-take i line)))
+  line-indices k =
+      below-at (length left) (take held line)
       (omega (arith, ready, h .alike))
+      (below-lift (length passed) (length left) (take held line) (omega (arith, passed-many, ready, h .alike)) (h .lined .below))
+      k
 
-  pub progress-placing : Placing line i
-  progress-placing = record { room = omega (arith, h .long, ready .few); rising = h .lined .rising }
+  pub progress-index : i < 512
+  progress-index = omega (arith, ready .few)
+
+  pub progress-rising : Rising 0 (take held line)
+  progress-rising = h .lined .kept .rising
+
+  -- where the next point belongs, and the column there
+  module _ {at : ℕ} (ranked : Ranked (take held line) (getD xs i 0) at) where
+    held-long : length (take held line) ≡ held
+    held-long = length-take-le held line (omega (arith, h .long, h .few, ready .few))
+
+    at-held : at ≤ held
+    at-held = omega (arith, ranked .within, held-long)
+
+    part : take at (take held line) ≡ take at line
+    part = take-take at held line at-held
+
+    pub progress-at : at ≤ length line
+    progress-at = omega (arith, at-held, h .few, h .long, ready .few)
+
+    pub progress-flags : Flagged [] (take at line)
+    progress-flags =
+        rw part at
+        (flagged-front [] (take at (take held line)) (drop at (take held line)) (rw (take-append-drop at (take held line)) (h .lined .kept .flags)))
+
+    pub progress-entering : {next : ℕ} → next ≡ entryOf (getD xs i 0) (getD ys i 0) i → Entering line held at next
+    progress-entering {next} e =
+        record {
+          room = omega (arith, h .long, h .few, ready .few);
+          kept = h .lined .kept;
+          ranked = rw (e, first-of) ranked;
+          clear = rw e clear-of;
+        }
+      where
+        first-of : xOf (entryOf (getD xs i 0) (getD ys i 0) i) ≡ getD xs i 0
+        first-of = omega (arith, ready .ys-small i, ready .few)
+
+        clear-of : flagOf (entryOf (getD xs i 0) (getD ys i 0) i) ≡ 0
+        clear-of = omega arith
 
   module _ {height : ℕ} (e : height ≡ rz - getD zs i 0) where
-    pub progress-crossing : Crossing (take i line) (getD xs i 0) (getD ys i 0) rx ry height left
-    progress-crossing =
+    pub progress-crossing : {at : ℕ} {column : Column} → Ranked (take held line) (getD xs i 0) at → Seen ry (take at line) column → Crossing (take held line) at column (getD xs i 0) (getD ys i 0) rx ry height left
+    progress-crossing {at} {column} ranked seen =
         record {
-          rising = h .lined .rising;
-          indices = λ k. line-indices k (decLe (suc k) i);
+          rising = progress-rising;
+          indices = line-indices;
+          reached = ranked .before;
+          standing = rw (part ranked) (seen .standing);
+          owned = seen .owned (length left) (λ k. first-indices k (decLe (suc k) at));
           rx-small = ready .reference-small 0;
           ry-small = ready .reference-small 1;
           height-small = omega (arith, ready .reference-small 2);
           enough = λ j. enough j (decLe (suc j) i);
         }
       where
-        enough : (j : ℕ) → Dec (j < i) → height * sharedWith (rx ∷ ry ∷ []) (take i line) (getD xs i 0 ∷ getD ys i 0 ∷ []) j ≤ getD left j 0
+        first-indices : (k : ℕ) → Dec (k < at) → indexOf (getD (take at line) k 0) < length left
+        first-indices k (yes a) =
+            rw (getD-take at line k 0 a, ← (getD-take held line k 0 (let u : k < held = omega (arith, at-held ranked) in u))) (line-indices k)
+        first-indices k (no a) =
+            rw (List·getD-eq-default (take at line) 0 {n = k} (omega (arith, length-take at line)))
+            (omega (arith, ready, h .alike))
+
+        enough : (j : ℕ) → Dec (j < i) → height * sharedWith (rx ∷ ry ∷ []) (take held line) (getD xs i 0 ∷ getD ys i 0 ∷ []) j ≤ getD left j 0
         enough j (yes a) = rw e (omega (arith, shared-at j a))
         enough j (no a) = rw (shared-none j (omega arith), mul-zero height) (omega arith)
 
-    module _ {left′ : List ℕ} {area : ℕ} (c : Crossed (take i line) (getD xs i 0) (getD ys i 0) rx ry height left left′ area) where
+    module _ {left′ : List ℕ} {area : ℕ} (c : Crossed (take held line) (getD xs i 0) (getD ys i 0) rx ry height left left′ area) where
       new-total : total (rz ∷ rx ∷ ry ∷ []) (take (i + 1) (points zs xs ys)) ≡ volume + height * area
       unfolding passed
       new-total =
           rw (next, e, h .counted, c .gained)
-          (next-total (h .lined) rz rx ry (getD zs i 0) (getD xs i 0) (getD ys i 0) under)
+          (next-total (h .lined) rz rx (getD zs i 0) (getD xs i 0) (getD ys i 0) under)
 
       pub progress-fits : volume + height * area < 2 ^ 64
       unfolding box
@@ -156,33 +207,25 @@ module _ {xs ys zs out : List ℕ} {rx ry rz i volume : ℕ} {line left : List �
       new-each : (own : ℕ) → own ≡ height * area → length left′ ≡ length left → (j : ℕ) → j < i + 1 → Dec (j < i) → getD (set left′ i own) j 0 ≡ contribution (rz ∷ rx ∷ ry ∷ []) (take (i + 1) (points zs xs ys)) (getD (points zs xs ys) j [])
       unfolding all passed
       new-each own f g j m (yes a) =
-          let fall : getD left′ j 0 + height * sharedWith (rx ∷ ry ∷ []) (take i line) (getD xs i 0 ∷ getD ys i 0 ∷ []) j ≡ getD left j 0 = c .fallen j in
-          let due : getD left j 0 ≡ contribution (rz ∷ rx ∷ ry ∷ []) (take (i + 1) (points zs xs ys)) (getD all j []) + height * sharedWith (rx ∷ ry ∷ []) (take i line) (getD xs i 0 ∷ getD ys i 0 ∷ []) j =
+          let fall : getD left′ j 0 + height * sharedWith (rx ∷ ry ∷ []) (take held line) (getD xs i 0 ∷ getD ys i 0 ∷ []) j ≡ getD left j 0 = c .fallen j in
+          let due : getD left j 0 ≡ contribution (rz ∷ rx ∷ ry ∷ []) (take (i + 1) (points zs xs ys)) (getD all j []) + height * sharedWith (rx ∷ ry ∷ []) (take held line) (getD xs i 0 ∷ getD ys i 0 ∷ []) j =
           rw e (shared-at j a) in
           getD-set-other left′ i j own 0 (λ q. omega arith) ∙ omega arith
       new-each own f g j m (no a) =
           let last : j ≡ i = omega arith in
           rw (last, getD-set-same left′ i own 0 (omega (arith, g, h .alike, ready .room)), f, all-at i l, next, e, c .gained)
-          (sym (next-own (h .lined) rz rx ry (getD zs i 0) (getD xs i 0) (getD ys i 0) under))
+          (sym (next-own (h .lined) rz rx (getD zs i 0) (getD xs i 0) (getD ys i 0) under))
 
       new-kept : (own : ℕ) → (j : ℕ) → i + 1 ≤ j → getD (set left′ i own) j 0 ≡ getD out j 0
       new-kept own j m =
-          let none : height * sharedWith (rx ∷ ry ∷ []) (take i line) (getD xs i 0 ∷ getD ys i 0 ∷ []) j ≡ 0 =
+          let none : height * sharedWith (rx ∷ ry ∷ []) (take held line) (getD xs i 0 ∷ getD ys i 0 ∷ []) j ≡ 0 =
           rw (shared-none j (omega arith)) (mul-zero height) in
           getD-set-other left′ i j own 0 (λ q. omega arith)
           ∙ omega (arith, c .fallen j, h .kept j (let n : i ≤ j = omega arith in n))
 
-      new-lined : (at : ℕ) → at ≤ i → Ascending (insertAt at (entryOf (getD xs i 0) (getD ys i 0) i) (take i line)) → Lined (passed ++ ((getD zs i 0 ∷ getD xs i 0 ∷ getD ys i 0 ∷ []) ∷ [])) (insertAt at (entryOf (getD xs i 0) (getD ys i 0) i) (take i line))
+      pub progress-more : {own entry end : ℕ} {line′ : List ℕ} → own ≡ height * area → length left′ ≡ length left → entry ≡ entryOf (getD xs i 0) (getD ys i 0) i → Entered ry line held entry line′ end → length line′ ≡ length line → Progress xs ys zs out rx ry rz (i + 1) end (volume + own) line′ (set left′ i own)
       unfolding passed
-      new-lined at m up =
-          rw passed-many at
-          (lined-more (h .lined) (getD zs i 0) (getD xs i 0) (getD ys i 0) at (ready .ys-small i)
-          (omega (arith, passed-many, ready .few))
-          (omega (arith, length-take-le i line (omega (arith, h .long, ready .few))))
-          (rw passed-many up))
-
-      pub progress-more : {own entry at : ℕ} {line′ : List ℕ} → own ≡ height * area → length left′ ≡ length left → entry ≡ entryOf (getD xs i 0) (getD ys i 0) i → Placed line i entry line′ at → length line′ ≡ length line → Progress xs ys zs out rx ry rz (i + 1) (volume + own) line′ (set left′ i own)
-      progress-more {own} {entry} {at} {line′} f g k p q =
+      progress-more {own} {entry} {end} {line′} f g k p q =
           record {
             ready = ready;
             within = omega arith;
@@ -191,11 +234,22 @@ module _ {xs ys zs out : List ℕ} {rx ry rz i volume : ℕ} {line left : List �
             counted = rw f (sym new-total);
             each = λ j m. new-each own f g j m (decLe (suc j) i);
             kept = new-kept own;
-            lined = rw (next, p .placed, k) (new-lined at (p .within) (rw (p .placed, k) at (p .rising)));
+            few = omega (arith, p .within, h .few);
+            lined =
+                rw next
+                (lined-more (h .lined) (getD zs i 0) (getD xs i 0) (getD ys i 0) (ready .ys-small i)
+                (omega (arith, passed-many, ready .few))
+                (p .kept)
+                (rw (passed-many, ← k) (p .alike))
+                (p .below (suc (length passed)) (below-lift (length passed) (suc (length passed)) (take held line) (omega arith) (h .lined .below))
+                (rw (k, index-of) (omega (arith, passed-many)))));
           }
+        where
+          index-of : indexOf (entryOf (getD xs i 0) (getD ys i 0) i) ≡ i
+          index-of = omega (arith, ready .few)
 
 -- After the last point.
-module _ {xs ys zs out : List ℕ} {rx ry rz i volume : ℕ} {line left : List ℕ} (h : Progress xs ys zs out rx ry rz i volume line left) (l : length xs ≤ i) where
+module _ {xs ys zs out : List ℕ} {rx ry rz i held volume : ℕ} {line left : List ℕ} (h : Progress xs ys zs out rx ry rz i held volume line left) (l : length xs ≤ i) where
   whole : take i (points zs xs ys) ≡ points zs xs ys
   whole =
       take-all i (points zs xs ys)
@@ -230,5 +284,5 @@ module _ {xs ys zs out : List ℕ} {rx ry rz i volume : ℕ} {line left : List �
       (λ j m. sym (counts-at j (omega (arith, counts-many))))
       (λ j m. h .kept j (omega (arith, counts-many, h .within))))
 
-pub progress-end : {xs ys zs out : List ℕ} {i volume : ℕ} {line left : List ℕ} (r : List ℕ) → length r ≡ 3 → Progress xs ys zs out (getD r 0 0) (getD r 1 0) (getD r 2 0) i volume line left → length xs ≤ i → (volume ≡ total r (points xs ys zs)) × (left ≡ contributions r (points xs ys zs) ++ drop (length xs) out)
+pub progress-end : {xs ys zs out : List ℕ} {i held volume : ℕ} {line left : List ℕ} (r : List ℕ) → length r ≡ 3 → Progress xs ys zs out (getD r 0 0) (getD r 1 0) (getD r 2 0) i held volume line left → length xs ≤ i → (volume ≡ total r (points xs ys zs)) × (left ≡ contributions r (points xs ys zs) ++ drop (length xs) out)
 progress-end r e h l = (rw (three r e) at (progress-total h l), rw (three r e) at (progress-contributions h l))

@@ -1,4 +1,4 @@
--- How many entries of a line pass a test: of two lines joined, with one entry more, and at one column of cells.
+-- How many entries of a line pass a test: of two lines joined, and at one column of cells.
 use Prim.Native.Nat.{ℕ, suc, _+_, _≤_, _<_}
 use mathlib.Core.Path.{_≡_, refl, sym, ap, _∙_}
 use mathlib.Core.Bool.{Bool, true, false}
@@ -11,20 +11,12 @@ use lib.Seq.{getD-take, getD-drop}
 use borrow.Author.Tests.{le-leb, lt-leb}
 use Rattle.hypervolume.specs.Cells.{both, holds, dominates}
 use Rattle.hypervolume.proofs.Tests.{both-comm}
-use Rattle.sweep.specs.Line.{tally, spot, xOf, yOf, insertAt}
+use Rattle.sweep.specs.Line.{tally, spot, xOf, yOf}
 
 pub tally-append : (test : ℕ → Bool) (s t : List ℕ) → tally test (s ++ t) ≡ tally test s + tally test t
 unfolding tally
 tally-append test [] t = sym (zero-add (tally test t))
 tally-append test (w ∷ s) t = rw (tally-append test s t, add-assoc)
-
-pub tally-insert : (test : ℕ → Bool) (at w : ℕ) (line : List ℕ) → tally test (insertAt at w line) ≡ holds (test w) + tally test line
-unfolding tally
-tally-insert test at w line =
-    let split : tally test (take at line ++ drop at line) ≡ tally test (take at line) + tally test (drop at line) =
-    tally-append test (take at line) (drop at line) in
-    let whole : tally test (take at line ++ drop at line) ≡ tally test line = ap (tally test) (take-append-drop at line) in
-    tally-append test (take at line) (w ∷ drop at line) ∙ omega arith
 
 pub tally-ext : (f g : ℕ → Bool) (line : List ℕ) → ((a : ℕ) → a < length line → f (getD line a 0) ≡ g (getD line a 0)) → tally f line ≡ tally g line
 unfolding tally
@@ -35,6 +27,14 @@ pub tally-none : (f : ℕ → Bool) (line : List ℕ) → ((a : ℕ) → a < len
 unfolding tally holds
 tally-none f [] h = refl
 tally-none f (w ∷ line) h = rw (h 0 (omega arith), tally-none f line (λ a l. h (suc a) (omega arith)))
+
+pub tally-le : (f g : ℕ → Bool) (line : List ℕ) → ((a : ℕ) → a < length line → holds (f (getD line a 0)) ≤ holds (g (getD line a 0))) → tally f line ≤ tally g line
+unfolding tally
+tally-le f g [] h = omega arith
+tally-le f g (w ∷ line) h =
+    let here : holds (f w) ≤ holds (g w) = h 0 (omega arith) in
+    let later : tally f line ≤ tally g line = tally-le f g line (λ a l. h (suc a) (omega arith)) in
+    omega arith
 
 -- Two tests that exclude each other, each with a part of a third.
 pub tally-parts : (f g h : ℕ → Bool) (line : List ℕ) → ((w : ℕ) → holds (f w) + holds (g w) ≤ holds (h w)) → tally f line + tally g line ≤ tally h line

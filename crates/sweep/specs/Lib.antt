@@ -1,5 +1,6 @@
 -- What the sweep counts. Points says which lists of coordinates it takes and which points they hold; the two
--- calls are stated with the counts of `hypervolume` on these points. Line and Strips are of the inner functions.
+-- calls are stated with the counts of `hypervolume` on these points. Line, Strips and Entries are of the inner functions.
 pub mod Points
 pub mod Line
 pub mod Strips
+pub mod Entries

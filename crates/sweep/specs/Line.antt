@@ -1,25 +1,32 @@
 -- The line: the points passed by the sweep, seen along z, in ascending order of x. Each is one word, an entry,
--- that holds x, y and the point's index in the list.
-use Prim.Native.Nat.{ℕ, _+_, _*_, _/_, _%_, _≤_, _<_}
+-- that holds x, y, the point's index in the list and a flag. A point that two entries cover is not in the line: it
+-- no longer counts (law 6).
+use Prim.Native.Nat.{ℕ, _+_, _*_, _/_, _%_, _≤_, _<_, min}
 use mathlib.Core.Path.{_≡_}
-use mathlib.Core.Bool.{Bool}
+use mathlib.Core.Bool.{Bool, true}
 use mathlib.Core.List.{List, [], _∷_, _++_}
 use lib.Dec.{leb, eqb}
-use lib.ListN.{length, take, drop}
+use lib.ListN.{length, take, drop, getD}
 use Rattle.hypervolume.specs.Cells.{both, holds, dominates, count}
-use Rattle.sweep.specs.Points.{Ascending}
 
+-- An entry without the flag, and one with it.
 abbrev pub entryOf : ℕ → ℕ → ℕ → ℕ
-entryOf x y index = (x * 2097152 + y) * 1024 + index
+entryOf x y index = ((x * 2097152 + y) * 1024 + index) * 2
+
+abbrev pub flagged : ℕ → ℕ
+flagged w = w / 2 * 2 + 1
 
 abbrev pub xOf : ℕ → ℕ
-xOf w = w / 2147483648
+xOf w = w / 4294967296
 
 abbrev pub yOf : ℕ → ℕ
-yOf w = w / 1024 % 2097152
+yOf w = w / 2048 % 2097152
 
 abbrev pub indexOf : ℕ → ℕ
-indexOf w = w % 1024
+indexOf w = w / 2 % 1024
+
+abbrev pub flagOf : ℕ → ℕ
+flagOf w = w % 2
 
 -- The point of an entry, seen along z.
 abbrev pub spot : ℕ → List ℕ
@@ -37,6 +44,13 @@ over line c = tally (λ w. dominates (spot w) c) line
 unfoldable pub overBy : ℕ → List ℕ → List ℕ → ℕ
 overBy j line c = tally (λ w. both (eqb (indexOf w) j) (dominates (spot w) c)) line
 
+-- How many entries are at most j on y, and how many of those are of the point of index t.
+unfoldable pub low : List ℕ → ℕ → ℕ
+low line j = tally (λ w. leb (yOf w) j) line
+
+unfoldable pub lowBy : ℕ → List ℕ → ℕ → ℕ
+lowBy t line j = tally (λ w. both (eqb (indexOf w) t) (leb (yOf w) j)) line
+
 -- The cells of the layer that p dominates and no entry does.
 unfoldable pub gainOver : List ℕ → List ℕ → List ℕ → ℕ
 gainOver r line p = count r (λ c. both (dominates p c) (eqb (over line c) 0))
@@ -45,16 +59,41 @@ gainOver r line p = count r (λ c. both (dominates p c) (eqb (over line c) 0))
 unfoldable pub sharedWith : List ℕ → List ℕ → List ℕ → ℕ → ℕ
 sharedWith r line p j = count r (λ c. both (dominates p c) (both (eqb (over line c) 1) (leb 1 (overBy j line c))))
 
+-- The entries ascend on x, from this x on.
+unfoldable pub Rising : ℕ → List ℕ → Type 0
+Rising x [] = Unit {0}
+Rising x (w ∷ line) = (x ≤ xOf w) × Rising (xOf w) line
+
+-- What the flag of an entry says of the entries before it: where it is clear, none of them is below it on y; where
+-- it is set, they dominate all that it dominates.
+pub record FlagRight (before : List ℕ) (w : ℕ) : Type 0 where
+  pub clear : flagOf w ≡ 0 → (j : ℕ) → j < yOf w → low before j ≡ 0
+  pub set : flagOf w ≡ 1 → (i j : ℕ) → dominates (spot w) (i ∷ j ∷ []) ≡ true → 1 ≤ over before (i ∷ j ∷ [])
+
+unfoldable pub Flagged : List ℕ → List ℕ → Type 0
+Flagged before [] = Unit {0}
+Flagged before (w ∷ line) = FlagRight before w × Flagged (before ++ (w ∷ [])) line
+
+-- A line as the sweep keeps it.
+pub record Kept (line : List ℕ) : Type 0 where
+  pub rising : Rising 0 line
+  pub flags : Flagged [] line
+
+-- Where a point at x belongs: behind the entries that are at most x.
+pub record Ranked (line : List ℕ) (x at : ℕ) : Type 0 where
+  pub within : at ≤ length line
+  pub before : (k : ℕ) → k < at → xOf (getD line k 0) ≤ x
+  pub after : (k : ℕ) → at ≤ k → k < length line → x < xOf (getD line k 0)
+
+-- Two lines that count alike at a cell: as many entries dominate it, where two are as good as more, and the same ones where
+-- it is at most one. Alike: at every cell of the rows below ry.
+pub record AlikeAt (line other : List ℕ) (i j : ℕ) : Type 0 where
+  pub many : min (over other (i ∷ j ∷ [])) 2 ≡ min (over line (i ∷ j ∷ [])) 2
+  pub whose : (t : ℕ) → over line (i ∷ j ∷ []) ≤ 1 → overBy t other (i ∷ j ∷ []) ≡ overBy t line (i ∷ j ∷ [])
+
+abbrev pub Alike : ℕ → List ℕ → List ℕ → Type 0
+Alike ry line other = (i j : ℕ) → j < ry → AlikeAt line other i j
+
 -- The list with one more entry, before the one at index `at`.
 abbrev pub insertAt : ℕ → ℕ → List ℕ → List ℕ
 insertAt at w line = take at line ++ (w ∷ drop at line)
-
--- What placing an entry among the first m words asks, and what it leaves.
-pub record Placing (line : List ℕ) (m : ℕ) : Type 0 where
-  pub room : m < length line
-  pub rising : Ascending (take m line)
-
-pub record Placed (line : List ℕ) (m entry : ℕ) (left : List ℕ) (at : ℕ) : Type 0 where
-  pub within : at ≤ m
-  pub placed : take (m + 1) left ≡ insertAt at entry (take m line)
-  pub rising : Ascending (take (m + 1) left)

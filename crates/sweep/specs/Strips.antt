@@ -4,10 +4,9 @@ use mathlib.Core.Path.{_≡_}
 use mathlib.Core.Bool.{Bool, true, false}
 use mathlib.Core.List.{List, [], _∷_}
 use lib.Dec.{ltb}
-use lib.ListN.{length, getD, set}
+use lib.ListN.{length, take, getD, set}
 use Rattle.sweep.specs.declared.column.Column.{Column}
-use Rattle.sweep.specs.Points.{Ascending}
-use Rattle.sweep.specs.Line.{indexOf, gainOver, sharedWith}
+use Rattle.sweep.specs.Line.{xOf, indexOf, low, lowBy, gainOver, sharedWith, Rising}
 
 abbrev pub pickColumn : Bool → Column → Column → Column
 pickColumn true a b = a
@@ -18,6 +17,21 @@ unfoldable pub columnWith : Column → ℕ → ℕ → Column
 columnWith c y owner =
     pickColumn (ltb y (c .least)) (record { least = y; owner = owner; second = c .least })
     (pickColumn (ltb y (c .second)) (record { least = c .least; owner = c .owner; second = y }) c)
+
+-- What a column's state says of the rows below ry: none of the points passed dominates the cells below `least`, the
+-- owner alone does from there up to `second`, two or more do above.
+pub record Standing (ry : ℕ) (passed : List ℕ) (column : Column) : Type 0 where
+  pub ordered : column .least ≤ column .second
+  pub top : column .second ≤ ry
+  pub none : (j : ℕ) → j < column .least → low passed j ≡ 0
+  pub one : (j : ℕ) → column .least ≤ j → j < column .second → low passed j ≡ 1
+  pub owned : (j : ℕ) → column .least ≤ j → j < column .second → lowBy (column .owner) passed j ≡ 1
+  pub more : (j : ℕ) → column .second ≤ j → j < ry → 2 ≤ low passed j
+
+-- The column that the entries of a line make: how they stand, and that its owner is one of theirs (or 0).
+pub record Seen (ry : ℕ) (line : List ℕ) (column : Column) : Type 0 where
+  pub standing : Standing ry line column
+  pub owned : (n : ℕ) → ((k : ℕ) → indexOf (getD line k 0) < n) → column .owner < n
 
 -- In one column: how many cells p dominates and no point passed does, and how many p and the owner alone do.
 abbrev pub alone : Column → ℕ → ℕ
@@ -39,10 +53,13 @@ pub record Settled (column : Column) (from to py height : ℕ) (out left : List 
   pub gained : area ≡ (to - from) * alone column py
   pub fallen : left ≡ set out (column .owner) (getD out (column .owner) 0 - height * ((to - from) * shared column py))
 
--- The whole pass: what it asks, and what it answers and leaves. `height` is the number of layers.
-pub record Crossing (line : List ℕ) (px py rx ry height : ℕ) (out : List ℕ) : Type 0 where
-  pub rising : Ascending line
+-- The pass, from the entry at `start` on: what it asks, and what it answers and leaves. `height` is the number of layers.
+pub record Crossing (line : List ℕ) (start : ℕ) (first : Column) (px py rx ry height : ℕ) (out : List ℕ) : Type 0 where
+  pub rising : Rising 0 line
   pub indices : (k : ℕ) → indexOf (getD line k 0) < length out
+  pub reached : (k : ℕ) → k < start → xOf (getD line k 0) ≤ px
+  pub standing : Standing ry (take start line) first
+  pub owned : first .owner < length out
   pub rx-small : rx ≤ 1048576
   pub ry-small : ry ≤ 1048576
   pub height-small : height ≤ 1048576

@@ -25,16 +25,19 @@ pub fn sweep(xs: &[u64], ys: &[u64], zs: &[u64], reference: Point, out: &mut [u6
     let ry = reference.at[1] as u64;
     let rz = reference.at[2];
     let mut line = [0u64; 512];
+    let mut m: usize = 0;
     let mut volume: u64 = 0;
     let mut i: usize = 0;
     while i < xs.len() {
         let x = xs[i];
         let y = ys[i];
         let height = hypervolume::edge(rz, zs[i] as u32);
-        let own = height * strips::strips(&line[..i], x, y, rx, ry, height, out);
+        let at = line::rank(&line[..m], x);
+        let column = strips::look_back(&line[..at], ry);
+        let own = height * strips::strips(&line[..m], at, column, x, y, rx, ry, height, out);
         out[i] = own;
         volume = volume + own;
-        line::place(&mut line, i, line::entry(x, y, i));
+        m = line::enter(&mut line, m, at, column, line::entry(x, y, i));
         i = i + 1;
     }
     volume

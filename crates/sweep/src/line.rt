@@ -1,49 +1,155 @@
-// The line: the points passed, in ascending x. Each is one word that holds x, y and the point's index in the list, 21
-// bits for a coordinate and 10 for the index, so that words in ascending order are points in ascending x.
+// The line: the points passed, in ascending x. Each is one word, an entry, that holds x, y, the point's index in the
+// list and a flag: 21 bits for a coordinate, 10 for the index, 1 for the flag. The flag is set where an entry before
+// it covers it; an entry without it has the least y so far. One that two others cover is left out: by law 6 it
+// no longer counts.
+use crate::column::Column;
 ghost use mathlib.Core.Path.{_≡_};
-ghost use Prim.Native.Nat.{_≤_, _<_};
-ghost use Rattle.sweep.specs.Line.{entryOf, xOf, yOf, indexOf, Placing, Placed};
+ghost use Prim.Native.Nat.{ℕ, _+_, _≤_, _<_};
+ghost use lib.ListN.{length, take};
+ghost use Rattle.sweep.specs.Line.{entryOf, flagged, xOf, yOf, indexOf, flagOf, Rising, Ranked, insertAt};
+ghost use Rattle.sweep.specs.Strips.{Standing};
+ghost use Rattle.sweep.specs.Entries.{pickEntry, Thinning, Walked, Closed, Entering, Entered};
 
 pub fn entry(x: u64, y: u64, index: usize) -> u64
     requires { ⌜ (x ≤ 1048576) × (y ≤ 1048576) × (index < 512) ⌝ }
     ensures { λ r. ⌜ r ≡ entryOf x y index ⌝ }
 {
-    (x * 2097152 + y) * 1024 + index as u64
+    ((x * 2097152 + y) * 1024 + index as u64) * 2
 }
 
 pub fn x_of(entry: u64) -> u64
     ensures { λ r. ⌜ r ≡ xOf entry ⌝ }
 {
-    entry / 2147483648
+    entry / 4294967296
 }
 
 pub fn y_of(entry: u64) -> u64
     ensures { λ r. ⌜ r ≡ yOf entry ⌝ }
 {
-    entry / 1024 % 2097152
+    entry / 2048 % 2097152
 }
 
 pub fn index_of(entry: u64) -> usize
     ensures { λ r. ⌜ r ≡ indexOf entry ⌝ }
 {
-    (entry % 1024) as usize
+    (entry / 2 % 1024) as usize
 }
 
-// Puts one more entry among the first m, which ascend, and answers where it stands.
-pub fn place(line: &mut [u64], m: usize, entry: u64) -> usize
-    requires { ⌜ Placing (now line) m ⌝ }
-    ensures { λ r. ⌜ Placed (now (line .entry)) m entry (now (line .exit)) r ⌝ }
+pub fn flag_of(entry: u64) -> u64
+    ensures { λ r. ⌜ r ≡ flagOf entry ⌝ }
 {
-    let mut at = m;
-    while 0 < at {
-        let below = line[at - 1];
-        if below <= entry {
-            line[at] = entry;
-            return at;
+    entry % 2
+}
+
+// The entry, with its flag set.
+pub fn set_flag(entry: u64) -> u64
+    ensures { λ r. ⌜ r ≡ flagged entry ⌝ }
+{
+    entry / 2 * 2 + 1
+}
+
+// The entry, with its flag set where the test holds.
+fn flag_where(test: bool, entry: u64) -> u64
+    ensures { λ r. ⌜ r ≡ pickEntry test (flagged entry) entry ⌝ }
+{
+    if test { set_flag(entry) } else { entry }
+}
+
+// Where a point at x belongs: behind the entries that are at most x.
+pub fn rank(line: &[u64], x: u64) -> usize
+    requires { ⌜ Rising 0 (now line) ⌝ }
+    ensures { λ r. ⌜ Ranked (now (line .entry)) x r ⌝ }
+{
+    let mut low = 0;
+    let mut high = line.len();
+    while low < high {
+        let middle = low + (high - low) / 2;
+        if x_of(line[middle]) <= x {
+            low = middle + 1;
+        } else {
+            high = middle;
         }
-        line[at] = below;
-        at = at - 1;
+    }
+    low
+}
+
+// What is free between the entries that stay and those that the walk did not come to.
+struct Gap {
+    to: usize,
+    from: usize,
+}
+
+// Walks along the entries from `at` on, for the next point, which belongs there. Those that it covers are flagged, and left
+// out where they had the flag. Past an entry that is below the point and has no flag, none without a flag is covered.
+fn thin(line: &mut [u64], m: usize, at: usize, next: u64) -> Gap
+    requires { ⌜ Thinning (now line) m at next ⌝ }
+    ensures { λ r. ⌜ Walked (now (line .entry)) m at next (now (line .exit)) (r .to) (r .from) ⌝ }
+{
+    let y = y_of(next);
+    let mut to = at;
+    let mut from = at;
+    while from < m {
+        let entry = line[from];
+        if y_of(entry) < y {
+            if flag_of(entry) == 0 {
+                return Gap { to, from };
+            }
+            line[to] = entry;
+            to += 1;
+            from += 1;
+        } else if flag_of(entry) == 0 {
+            line[to] = set_flag(entry);
+            to += 1;
+            from += 1;
+        } else {
+            from += 1;
+        }
+    }
+    Gap { to, from }
+}
+
+// Moves the entries from `from` up to m down to `to`, and answers where they end.
+fn close(line: &mut [u64], to: usize, from: usize, m: usize) -> usize
+    requires { ⌜ (to ≤ from) × (from ≤ m) × (m ≤ length (now line)) ⌝ }
+    ensures { λ r. ⌜ Closed (now (line .entry)) to from m (now (line .exit)) r ⌝ }
+{
+    if to == from {
+        return m;
+    }
+    let n = m - from;
+    let mut i = 0;
+    while i < n {
+        line[to + i] = line[from + i];
+        i += 1;
+    }
+    to + n
+}
+
+// Puts the entry in at `at`, among the first m.
+fn place(line: &mut [u64], m: usize, at: usize, entry: u64)
+    requires { ⌜ (at ≤ m) × (m < length (now line)) ⌝ }
+    ensures { λ _. ⌜ take (m + 1) (now (line .exit)) ≡ insertAt at entry (take m (now (line .entry))) ⌝ }
+{
+    let mut k = m;
+    while at < k {
+        line[k] = line[k - 1];
+        k -= 1;
     }
     line[at] = entry;
-    at
+}
+
+// The line of m entries with the next point, which belongs at `at`, where the column is that of the entries before: answers how
+// many entries it has then. A point that two of them cover is left out.
+pub fn enter(line: &mut [u64], m: usize, at: usize, column: Column, next: u64) -> usize
+    requires { ⌜ Entering (now line) m at next ⌝ }
+    ensures { λ r. ⌜ ((ry : ℕ) → Standing ry (take at (now (line .entry))) column → Entered ry (now (line .entry)) m next (now (line .exit)) r) ⌝ }
+{
+    let y = y_of(next);
+    if column.second <= y {
+        return m;
+    }
+    let gap = thin(line, m, at, next);
+    let left = close(line, gap.to, gap.from, m);
+    place(line, left, at, flag_where(column.least <= y, next));
+    left + 1
 }

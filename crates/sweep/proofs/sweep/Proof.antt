@@ -4,16 +4,16 @@ use lib.ListN.{length}
 use lib.Seq.{length-take-le}
 use mathlib.Core.Path.{refl, sym}
 use native.Mathlib.Omega.{arith}
+use Rattle.sweep.proofs.Sweeps.{Progress, progress-none, progress-index, progress-rising, progress-at, progress-flags, progress-crossing, progress-own, progress-fits, progress-entering, progress-more, progress-end}
 use borrow.Author.Needs.{needs}
-use Rattle.sweep.proofs.Sweeps.{Progress, progress-none, progress-crossing, progress-own, progress-fits, progress-placing, progress-more, progress-end}
 use Rattle.sweep.proofs.sweep.Statement.{statement}
 use Rattle.sweep.proofs.sweep.Tie as tie
 
 abbrev Inv-loop : tie.InvT-loop
-Inv-loop xs ys zs out₀ rx ry rz line₀ volume₀ i₀ out line volume i = Progress xs ys zs out₀ rx ry rz i volume line out
+Inv-loop xs ys zs out₀ rx ry rz line₀ m₀ volume₀ i₀ out line m volume i = Progress xs ys zs out₀ rx ry rz i m volume line out
 
 abbrev μ-loop : tie.MeasureT-loop
-μ-loop xs ys zs out₀ rx ry rz line₀ volume₀ i₀ out line volume i = length xs - i
+μ-loop xs ys zs out₀ rx ry rz line₀ m₀ volume₀ i₀ out line m volume i = length xs - i
 
 element-copy-out-rx : tie.Need-element-copy-out-rx Inv-loop μ-loop
 element-copy-out-rx c = search needs
@@ -62,22 +62,62 @@ edge-requires c κs = search needs
 array-share-prefix-line : tie.Need-array-share-prefix-line Inv-loop μ-loop
 array-share-prefix-line c = search needs
 
+slice-aggregate-rank : tie.Need-slice-aggregate-rank Inv-loop μ-loop
+slice-aggregate-rank c = sym (length-take-le _ _ (search needs))
+
+-- the turn that an answer is of
+abbrev turn : tie.After-edge Inv-loop μ-loop → tie.In-loop Inv-loop μ-loop
+turn c = c .before .before .before .before
+
+abbrev ranked : tie.After-rank Inv-loop μ-loop → tie.After-edge Inv-loop μ-loop
+ranked c = c .before .before
+
+rank-requires : tie.Need-rank-requires Inv-loop μ-loop
+rank-requires c κs =
+    let here = turn (c .before) in
+    progress-rising (here .before .loop .inv) (here .loop-test .taken)
+
+array-share-prefix-line-2 : tie.Need-array-share-prefix-line-2 Inv-loop μ-loop
+array-share-prefix-line-2 c =
+    let here = turn (ranked c) in
+    omega (arith, progress-at (here .before .loop .inv) (here .loop-test .taken) (c .rank .ensures), here .before .loop .inv .long)
+
+slice-aggregate-look-back : tie.Need-slice-aggregate-look-back Inv-loop μ-loop
+slice-aggregate-look-back c =
+    let here = turn (ranked (c .before)) in
+    sym (length-take-le _ _ (progress-at (here .before .loop .inv) (here .loop-test .taken) (c .before .rank .ensures)))
+
+look-back-requires : tie.Need-look-back-requires Inv-loop μ-loop
+look-back-requires c κs =
+    let here = turn (ranked (c .before)) in
+    progress-flags (here .before .loop .inv) (here .loop-test .taken) (c .before .rank .ensures)
+
+array-share-prefix-line-3 : tie.Need-array-share-prefix-line-3 Inv-loop μ-loop
+array-share-prefix-line-3 c = search needs
+
 slice-aggregate-strips : tie.Need-slice-aggregate-strips Inv-loop μ-loop
 slice-aggregate-strips c = sym (length-take-le _ _ (search needs))
 
+abbrev place : tie.After-look-back Inv-loop μ-loop → tie.After-rank Inv-loop μ-loop
+place c = c .before .before
+
 strips-requires : tie.Need-strips-requires Inv-loop μ-loop
 strips-requires c κs =
-    let raised = c .before .before in
-    let turn = raised .before .before .before .before in
-    progress-crossing (turn .before .loop .inv) (turn .loop-test .taken) (raised .edge .ensures)
+    let seen = c .before .before in
+    let edge = ranked (place seen) in
+    let here = turn edge in
+    progress-crossing (here .before .loop .inv) (here .loop-test .taken) (edge .edge .ensures) (place seen .rank .ensures) (seen .look-back .ensures)
+
+abbrev looked : tie.After-strips Inv-loop μ-loop → tie.After-look-back Inv-loop μ-loop
+looked c = c .before .before .before
 
 mul-own : tie.Need-mul-own Inv-loop μ-loop
 mul-own c =
     let crossed = c .before .before in
-    let raised = crossed .before .before .before in
-    let turn = raised .before .before .before .before in
+    let edge = ranked (place (looked crossed)) in
+    let here = turn edge in
     record {
-      fits = progress-own (turn .before .loop .inv) (turn .loop-test .taken) (raised .edge .ensures) (crossed .strips .ensures);
+      fits = progress-own (here .before .loop .inv) (here .loop-test .taken) (edge .edge .ensures) (crossed .strips .ensures);
     }
 
 mul-out : tie.Need-mul-out Inv-loop μ-loop
@@ -89,26 +129,28 @@ slice-write-out c = search needs
 add-volume : tie.Need-add-volume Inv-loop μ-loop
 add-volume c =
     let crossed = c .before .before in
-    let raised = crossed .before .before .before in
-    let turn = raised .before .before .before .before in
+    let edge = ranked (place (looked crossed)) in
+    let here = turn edge in
     record {
-      fits = progress-fits (turn .before .loop .inv) (turn .loop-test .taken) (raised .edge .ensures) (crossed .strips .ensures);
+      fits = progress-fits (here .before .loop .inv) (here .loop-test .taken) (edge .edge .ensures) (crossed .strips .ensures);
     }
 
-slice-aggregate-place : tie.Need-slice-aggregate-place Inv-loop μ-loop
-slice-aggregate-place c = search needs
+slice-aggregate-enter : tie.Need-slice-aggregate-enter Inv-loop μ-loop
+slice-aggregate-enter c = search needs
 
 entry-requires : tie.Need-entry-requires Inv-loop μ-loop
 entry-requires c κs =
-    let raised = c .before .before .before .before .before .before in
-    let turn = raised .before .before .before .before .before .loop in
-    (turn .inv .ready .xs-small (turn .i), turn .inv .ready .ys-small (turn .i), omega (arith, turn .inv .ready .few))
+    let crossed = c .before .before .before in
+    let here = turn (ranked (place (looked crossed))) in
+    let done = here .before .loop in
+    (done .inv .ready .xs-small (done .i), done .inv .ready .ys-small (done .i), progress-index (done .inv) (here .loop-test .taken))
 
-place-requires : tie.Need-place-requires Inv-loop μ-loop
-place-requires c κs =
-    let raised = c .before .before .before .before .before .before .before in
-    let turn = raised .before .before .before .before in
-    progress-placing (turn .before .loop .inv) (turn .loop-test .taken)
+enter-requires : tie.Need-enter-requires Inv-loop μ-loop
+enter-requires c κs =
+    let crossed = c .before .before .before .before in
+    let place′ = place (looked crossed) in
+    let here = turn (ranked place′) in
+    progress-entering (here .before .loop .inv) (here .loop-test .taken) (place′ .rank .ensures) (c .entry .ensures)
 
 add-i : tie.Need-add-i Inv-loop μ-loop
 add-i c = search needs
@@ -118,16 +160,17 @@ loop-less c = search needs
 
 loop-again : tie.Need-loop-again Inv-loop μ-loop
 loop-again c =
-    let placed = c .before in
-    let entered = placed .before in
-    let crossed = entered .before .before .before .before in
-    let raised = crossed .before .before .before in
-    let turn = raised .before .before .before .before in
-    progress-more (turn .before .loop .inv) (turn .loop-test .taken) (raised .edge .ensures) (crossed .strips .ensures) refl
-    (crossed .strips .kept .1 .1 .1 .1 .1 .1 .0)
-    (entered .entry .ensures)
-    (placed .place .ensures)
-    (placed .place .kept .0)
+    let entered = c .before in
+    let entry = entered .before in
+    let crossed = entry .before .before .before .before in
+    let seen = looked crossed in
+    let edge = ranked (place seen) in
+    let here = turn edge in
+    progress-more (here .before .loop .inv) (here .loop-test .taken) (edge .edge .ensures) (crossed .strips .ensures) refl
+    (crossed .strips .kept .1 .1 .1 .1 .1 .1 .1 .1 .0)
+    (entry .entry .ensures)
+    (entered .enter .ensures _ (seen .look-back .ensures .standing))
+    (entered .enter .kept .0)
 
 same-length : tie.Need-same-length Inv-loop μ-loop
 same-length c = search needs
@@ -156,15 +199,21 @@ sweep-spec =
     cast-edge
     edge-requires
     array-share-prefix-line
+    slice-aggregate-rank
+    rank-requires
+    array-share-prefix-line-2
+    slice-aggregate-look-back
+    look-back-requires
+    array-share-prefix-line-3
     slice-aggregate-strips
     strips-requires
     mul-own
     mul-out
     slice-write-out
     add-volume
-    slice-aggregate-place
+    slice-aggregate-enter
     entry-requires
-    place-requires
+    enter-requires
     add-i
     loop-less
     loop-again

@@ -12,10 +12,10 @@ use Rattle.sweep.proofs.strips.strips.Statement.{statement}
 use Rattle.sweep.proofs.strips.strips.Tie as tie
 
 abbrev Inv-loop : tie.InvT-loop
-Inv-loop line px py rx ry height out₀ column₀ at₀ area₀ k₀ out column at area k = Swept line px py rx ry height out₀ k at area column out
+Inv-loop line start px py rx ry height out₀ column₀ at₀ area₀ k₀ out column at area k = Swept line px py rx ry height out₀ k at area column out
 
 abbrev μ-loop : tie.MeasureT-loop
-μ-loop line px py rx ry height out₀ column₀ at₀ area₀ k₀ out column at area k = length line - k
+μ-loop line start px py rx ry height out₀ column₀ at₀ area₀ k₀ out column at area k = length line - k
 
 smaller-requires : tie.Need-smaller-requires Inv-loop μ-loop
 smaller-requires c κs = search needs

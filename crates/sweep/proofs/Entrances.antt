@@ -1,0 +1,237 @@
+-- The next point enters the line: it goes in behind the entries that are at most it on x, with its flag, or two entries cover
+-- it and it is left out.
+use Prim.Native.Nat.{ℕ, suc, _+_, _-_, _≤_, _<_, min}
+use mathlib.Core.Path.{_≡_, refl, sym, ap, _∙_}
+use mathlib.Core.Bool.{Bool, true, false}
+use mathlib.Core.List.{List, [], _∷_, _++_, append-assoc}
+use native.Mathlib.Nat.{zero-add}
+use native.Mathlib.Numerals.{add-one}
+use native.Mathlib.Omega.{arith}
+use lib.Dec.{leb, eqb}
+use lib.ListN.{length, take, drop, getD, length-append, length-take, length-drop, take-append-drop}
+use lib.Seq.{length-take-le, getD-take, take-take, take-at, drop-at}
+use borrow.Author.Tests.{leb-true}
+use Rattle.hypervolume.specs.Cells.{both, holds, dominates}
+use Rattle.hypervolume.proofs.Tests.{Compared, below, above, compared, both-true, both-comm}
+use Rattle.sweep.specs.declared.column.Column.{Column}
+use Rattle.sweep.specs.Line.{tally, flagged, spot, xOf, yOf, indexOf, flagOf, over, overBy, low, Rising, FlagRight, Flagged, Kept, Ranked, AlikeAt, insertAt}
+use Rattle.sweep.specs.Strips.{Standing}
+use Rattle.sweep.specs.Entries.{pickEntry, Below, Thinned, Thinning, Walked, Closed, Entering, Entered}
+use Rattle.sweep.proofs.Tallies.{tally-append, tally-le}
+use Rattle.sweep.proofs.Columns.{standing-some}
+use Rattle.sweep.proofs.Orders.{rising-front, rising-join}
+use Rattle.sweep.proofs.Flags.{over-append, over-cons, Fewer, fewer-same, flagged-fewer, flagged-front, flagged-join}
+use Rattle.sweep.proofs.Thinnings.{alike-then, alike-same, covers, below-append, below-join, take-drop}
+
+-- Where the entries of a line are at most p on x, those that are at most p on y dominate what p dominates.
+low-over : (line : List ℕ) (x y i j : ℕ) → ((k : ℕ) → k < length line → xOf (getD line k 0) ≤ x) → dominates (x ∷ y ∷ []) (i ∷ j ∷ []) ≡ true → low line y ≤ over line (i ∷ j ∷ [])
+unfolding low over holds
+low-over line x y i j h d =
+    tally-le (λ w. leb (yOf w) y) (λ w. dominates (spot w) (i ∷ j ∷ [])) line
+    (λ k l. one (getD line k 0) (h k l))
+  where
+    one : (w : ℕ) → xOf w ≤ x → holds (leb (yOf w) y) ≤ holds (dominates (spot w) (i ∷ j ∷ []))
+    one w l = go (leb (yOf w) y) (compared (yOf w) y)
+      where
+        go : (b : Bool) → Compared (yOf w) y b → holds b ≤ holds (dominates (spot w) (i ∷ j ∷ []))
+        go true (below m) = rw (covers (xOf w) (yOf w) x y (i ∷ j ∷ []) l m d) (omega arith)
+        go false (above m) = omega arith
+
+-- A point that dominates a cell is at most it on y.
+row-of : (x y i j : ℕ) → dominates (x ∷ y ∷ []) (i ∷ j ∷ []) ≡ true → y ≤ j
+unfolding dominates
+row-of x y i j d =
+    let tests = both-true (leb x i) (both (leb y j) true) d in
+    leb-true y j (both-true (leb y j) true (tests .1) .0)
+
+-- The same point, with the flag or without.
+record Same (v w : ℕ) : Type 0 where
+  pub x : xOf v ≡ xOf w
+  pub y : yOf v ≡ yOf w
+  pub index : indexOf v ≡ indexOf w
+
+same-picked : (b : Bool) (w : ℕ) → Same (pickEntry b (flagged w) w) w
+same-picked true w = record { x = omega arith; y = omega arith; index = omega arith }
+same-picked false w = record { x = refl; y = refl; index = refl }
+
+module _ {line : List ℕ} {m at next : ℕ} (asked : Entering line m at next) where
+  old : List ℕ
+  old = take m line
+
+  front : List ℕ
+  front = take at line
+
+  back : List ℕ
+  back = drop at (take m line)
+
+  old-long : length (take m line) ≡ m
+  old-long = length-take-le m line (omega (arith, asked .room))
+
+  at-within : at ≤ m
+  at-within = omega (arith, asked .ranked .within, old-long)
+
+  front-long : length (take at line) ≡ at
+  front-long = length-take-le at line (omega (arith, asked .room, at-within))
+
+  whole : take at line ++ drop at (take m line) ≡ take m line
+  whole = take-drop at m line at-within
+
+  front-before : (k : ℕ) → k < length (take at line) → xOf (getD (take at line) k 0) ≤ xOf next
+  front-before k l =
+      let inside : k < at = omega (arith, front-long) in
+      rw (getD-take at line k 0 inside, ← (getD-take m line k 0 (let u : k < m = omega (arith, at-within) in u)))
+      (asked .ranked .before k inside)
+
+  pub entering-thinning : Thinning line m at next
+  entering-thinning =
+      record {
+        room = omega (arith, asked .room);
+        within = at-within;
+        kept = asked .kept;
+        beyond = λ k l n.
+            let after : xOf next < xOf (getD (take m line) k 0) = asked .ranked .after k l (omega (arith, old-long)) in
+            rw (getD-take m line k 0 n) at (let weak : xOf next ≤ xOf (getD (take m line) k 0) = omega arith in weak);
+      }
+
+  module _ {ry : ℕ} {column : Column} (standing : Standing ry (take at line) column) {y : ℕ} (e : y ≡ yOf next) where
+    -- Two entries cover the next point.
+    module _ (l : column .second ≤ y) where
+      over-old : (c : List ℕ) → over (take m line) c ≡ over (take at line) c + over (drop at (take m line)) c
+      over-old c = ap (λ r. over r c) (sym whole) ∙ over-append (take at line) (drop at (take m line)) c
+
+      twice : (i j : ℕ) → j < ry → dominates (spot next) (i ∷ j ∷ []) ≡ true → 2 ≤ over (take m line) (i ∷ j ∷ [])
+      twice i j n d =
+          let row : yOf next ≤ j = row-of (xOf next) (yOf next) i j d in
+          let two : 2 ≤ low (take at line) (yOf next) = standing .more (yOf next) (omega arith) (omega arith) in
+          let some : low (take at line) (yOf next) ≤ over (take at line) (i ∷ j ∷ []) =
+          low-over (take at line) (xOf next) (yOf next) i j front-before d in
+          omega (arith, over-old (i ∷ j ∷ []))
+
+      alike-left-out : (i j : ℕ) → j < ry → AlikeAt (next ∷ take m line) (take m line) i j
+      unfolding overBy tally both holds
+      alike-left-out i j n = go (dominates (spot next) (i ∷ j ∷ [])) refl
+        where
+          go : (d : Bool) → dominates (spot next) (i ∷ j ∷ []) ≡ d → AlikeAt (next ∷ take m line) (take m line) i j
+          go true d =
+              let two : 2 ≤ over (take m line) (i ∷ j ∷ []) = twice i j n d in
+              record {
+                many = omega (arith, over-cons next (take m line) (i ∷ j ∷ []));
+                whose = λ t f. absurd (let no′ : ⊥ = omega (arith, over-cons next (take m line) (i ∷ j ∷ [])) in no′);
+              }
+          go false d =
+              alike-same
+              (sym (over-cons next (take m line) (i ∷ j ∷ []) ∙ rw d (zero-add (over (take m line) (i ∷ j ∷ [])))))
+              (λ t. sym (rw (d, both-comm (eqb (indexOf next) t) false) (zero-add (overBy t (take m line) (i ∷ j ∷ [])))))
+
+      pub entered-not : Entered ry line m next line m
+      entered-not =
+          record {
+            within = omega arith;
+            kept = asked .kept;
+            alike = alike-left-out;
+            below = λ n b f. b;
+          }
+
+    -- Its entry goes in.
+    module _ (l : y < column .second) {left : List ℕ} {to from : ℕ} (walked : Walked line m at next left to from) {left′ : List ℕ} {end : ℕ} (closed : Closed left to from m left′ end) where
+      new : List ℕ
+      new = drop at (take to left) ++ drop from (take m left)
+
+      closed-is : take end left′ ≡ take at line ++ new
+      unfolding new
+      closed-is =
+          let stays : take to left ≡ take at line ++ drop at (take to left) =
+          sym (take-drop at to left (walked .front)) ∙ ap (λ r. r ++ drop at (take to left)) (walked .before) in
+          closed .joined
+          ∙ ap (λ r. r ++ drop from (take m left)) stays
+          ∙ append-assoc (take at line) (drop at (take to left)) (drop from (take m left))
+
+      thinned : Thinned (take at line) (drop at (take m line)) next new
+      unfolding new
+      thinned = walked .thinned
+
+      module _ {b : Bool} (f : b ≡ leb (column .least) y) (left″ : List ℕ) (placed : take (end + 1) left″ ≡ insertAt at (pickEntry b (flagged next) next) (take end left′)) where
+        v : ℕ
+        v = pickEntry b (flagged next) next
+
+        same : Same v next
+        unfolding v
+        same = same-picked b next
+
+        all : List ℕ
+        all = take at line ++ (v ∷ new)
+
+        placed-is : take (end + 1) left″ ≡ all
+        unfolding all v
+        placed-is =
+            placed
+            ∙ rw (closed-is, take-at (take at line) new at front-long, drop-at (take at line) new at front-long)
+
+        -- its flag
+        flag-right : FlagRight (take at line) v
+        unfolding v
+        flag-right = rw f (go (leb (column .least) y) (compared (column .least) y))
+          where
+            go : (d : Bool) → Compared (column .least) y d → FlagRight (take at line) (pickEntry d (flagged next) next)
+            go true (below m) =
+                record {
+                  clear = λ g. absurd (let no′ : ⊥ = omega arith in no′);
+                  set = λ g i j d.
+                      let twin : Same (flagged next) next = same-picked true next in
+                      let too : dominates (spot next) (i ∷ j ∷ []) ≡ true = rw (twin .x, twin .y) at d in
+                      let some : 1 ≤ low (take at line) (yOf next) = standing-some standing (yOf next) (omega arith) (omega (arith, standing .top)) in
+                      omega (arith, low-over (take at line) (xOf next) (yOf next) i j front-before too);
+                }
+            go false (above m) =
+                record {
+                  clear = λ g j n. standing .none j (omega arith);
+                  set = λ g. absurd (let no′ : ⊥ = omega (arith, asked .clear) in no′);
+                }
+
+        tells : Fewer (take at line ++ (next ∷ [])) (take at line ++ (v ∷ []))
+        tells = fewer-same (take at line) v next (same .x) (same .y)
+
+        rising : Rising 0 all
+        unfolding all Rising
+        rising =
+            rising-join 0 (xOf next) (take at line) (v ∷ new) (omega arith)
+            (rising-front 0 (take at line) (drop at (take m line)) (rw whole (asked .kept .rising)))
+            front-before
+            (omega (arith, same .x), rw (same .x) (thinned .rising))
+
+        flags : Flagged [] all
+        unfolding all Flagged
+        flags =
+            flagged-join [] (take at line) (v ∷ new)
+            (flagged-front [] (take at line) (drop at (take m line)) (rw whole (asked .kept .flags)))
+            (flag-right, flagged-fewer (take at line ++ (next ∷ [])) (take at line ++ (v ∷ [])) new tells (thinned .flags))
+
+        tally-moved : (test : ℕ → Bool) → test v ≡ test next → tally test (take at line ++ (v ∷ new)) ≡ tally test (next ∷ (take at line ++ new))
+        unfolding tally
+        tally-moved test g =
+            tally-append test (take at line) (v ∷ new)
+            ∙ rw (g, tally-append test (take at line) new) (omega arith)
+
+        alike : (i j : ℕ) → AlikeAt (next ∷ take m line) all i j
+        unfolding all over overBy
+        alike i j =
+            alike-then
+            (rw whole at (thinned .alike i j))
+            (alike-same
+            (tally-moved (λ u. dominates (spot u) (i ∷ j ∷ [])) (rw (same .x, same .y)))
+            (λ t. tally-moved (λ u. both (eqb (indexOf u) t) (dominates (spot u) (i ∷ j ∷ []))) (rw (same .x, same .y, same .index))))
+
+        below-all : (n : ℕ) → Below n (take m line) → indexOf next < n → Below n all
+        unfolding all Below
+        below-all n g k =
+            let parts = below-append n (take at line) (drop at (take m line)) (rw whole g) in
+            below-join n (take at line) (v ∷ new) (parts .0) (omega (arith, same .index), thinned .below n (parts .1))
+
+        pub entered-so : Entered ry line m next left″ (end + 1)
+        entered-so =
+            record {
+              within = omega (arith, closed .ends, walked .gap, walked .within);
+              kept = rw placed-is (record { rising = rising; flags = flags });
+              alike = λ i j n. rw placed-is (alike i j);
+              below = λ n g k. rw placed-is (below-all n g k);
+            }

@@ -1,0 +1,100 @@
+-- The flags of the line: what they say of the entries before, and when they stay right.
+use Prim.Native.Nat.{ℕ, zero, suc, _+_, _≤_, _<_}
+use mathlib.Core.Path.{_≡_, refl, sym, ap, _∙_}
+use mathlib.Core.Bool.{Bool, true, false}
+use mathlib.Core.List.{List, [], _∷_, _++_, append-assoc}
+use native.Mathlib.Nat.{add-zero}
+use native.Mathlib.Decide.{decLe}
+use native.Mathlib.Omega.{arith}
+use lib.Dec.{leb, eqb}
+use lib.ListN.{length, take, getD}
+use lib.Seq.{append-snoc}
+use borrow.Author.Tests.{le-leb, lt-leb}
+use Rattle.hypervolume.specs.Cells.{both, holds, dominates}
+use Rattle.sweep.specs.Line.{tally, spot, xOf, yOf, indexOf, flagOf, over, overBy, low, FlagRight, Flagged}
+use Rattle.sweep.proofs.Tallies.{tally-append, tally-le}
+use Rattle.sweep.proofs.Columns.{low-append, low-more}
+
+pub over-append : (s t : List ℕ) (c : List ℕ) → over (s ++ t) c ≡ over s c + over t c
+unfolding over
+over-append s t c = tally-append (λ w. dominates (spot w) c) s t
+
+pub over-cons : (w : ℕ) (line c : List ℕ) → over (w ∷ line) c ≡ holds (dominates (spot w) c) + over line c
+unfolding over tally
+over-cons w line c = refl
+
+pub over-more : (line : List ℕ) (w : ℕ) (c : List ℕ) → over (line ++ (w ∷ [])) c ≡ over line c + holds (dominates (spot w) c)
+unfolding over tally
+over-more line w c =
+    over-append line (w ∷ []) c ∙ ap (λ k. over line c + k) (add-zero (holds (dominates (spot w) c)))
+
+-- Entries that tell a flag no more than others do: where those leave the rows below y free, so do these, and these dominate
+-- every cell that those dominate.
+pub record Fewer (before other : List ℕ) : Type 0 where
+  pub free : (y : ℕ) → ((j : ℕ) → j < y → low before j ≡ 0) → (j : ℕ) → j < y → low other j ≡ 0
+  pub some : (i j : ℕ) → 1 ≤ over before (i ∷ j ∷ []) → 1 ≤ over other (i ∷ j ∷ [])
+
+fewer-more : {before other : List ℕ} → Fewer before other → (w : ℕ) → Fewer (before ++ (w ∷ [])) (other ++ (w ∷ []))
+fewer-more {before} {other} h w =
+    record {
+      free = λ y e j l.
+          let none : (j : ℕ) → j < y → low before j ≡ 0 = λ j l. omega (arith, e j l, low-more before w j) in
+          omega (arith, low-more other w j, h .free y none j l, e j l, low-more before w j);
+      some = λ i j l. go i j l (decLe 1 (over before (i ∷ j ∷ [])));
+    }
+  where
+    go : (i j : ℕ) → 1 ≤ over (before ++ (w ∷ [])) (i ∷ j ∷ []) → Dec (1 ≤ over before (i ∷ j ∷ [])) → 1 ≤ over (other ++ (w ∷ [])) (i ∷ j ∷ [])
+    go i j l (yes m) = omega (arith, over-more other w (i ∷ j ∷ []), h .some i j m)
+    go i j l (no m) = omega (arith, over-more other w (i ∷ j ∷ []), over-more before w (i ∷ j ∷ []))
+
+-- two entries of one point tell the same
+pub fewer-same : (before : List ℕ) (v w : ℕ) → xOf v ≡ xOf w → yOf v ≡ yOf w → Fewer (before ++ (w ∷ [])) (before ++ (v ∷ []))
+fewer-same before v w e f =
+    record {
+      free = λ y g j l. low-more before v j ∙ rw f (sym (low-more before w j) ∙ g j l);
+      some = λ i j l.
+          let same : over (before ++ (v ∷ [])) (i ∷ j ∷ []) ≡ over (before ++ (w ∷ [])) (i ∷ j ∷ []) =
+          over-more before v (i ∷ j ∷ []) ∙ rw (e, f) (sym (over-more before w (i ∷ j ∷ []))) in
+          omega arith;
+    }
+
+pub flag-fewer : {before other : List ℕ} → Fewer before other → {w : ℕ} → FlagRight before w → FlagRight other w
+flag-fewer h {w} f = record { clear = λ e. h .free (yOf w) (f .clear e); set = λ e i j d. h .some i j (f .set e i j d) }
+
+pub flagged-fewer : (before other line : List ℕ) → Fewer before other → Flagged before line → Flagged other line
+unfolding Flagged
+flagged-fewer before other [] h f = tt
+flagged-fewer before other (w ∷ line) h f =
+    (flag-fewer h (f .0), flagged-fewer (before ++ (w ∷ [])) (other ++ (w ∷ [])) line (fewer-more h w) (f .1))
+
+pub append-none : {A : Type 0} (l : List A) → l ++ [] ≡ l
+append-none [] = refl
+append-none (a ∷ l) = ap (λ t. a ∷ t) (append-none l)
+
+-- Two lines, one behind the other.
+pub flagged-front : (before s t : List ℕ) → Flagged before (s ++ t) → Flagged before s
+unfolding Flagged
+flagged-front before [] t f = tt
+flagged-front before (w ∷ s) t f = (f .0, flagged-front (before ++ (w ∷ [])) s t (f .1))
+
+pub flagged-back : (before s t : List ℕ) → Flagged before (s ++ t) → Flagged (before ++ s) t
+unfolding Flagged
+flagged-back before [] t f = rw (append-none before) f
+flagged-back before (w ∷ s) t f = rw (append-snoc before w s) at (flagged-back (before ++ (w ∷ [])) s t (f .1))
+
+pub flagged-join : (before s t : List ℕ) → Flagged before s → Flagged (before ++ s) t → Flagged before (s ++ t)
+unfolding Flagged
+flagged-join before [] t f g = rw (append-none before) at g
+flagged-join before (w ∷ s) t f g =
+    (f .0, flagged-join (before ++ (w ∷ [])) s t (f .1) (rw (append-snoc before w s) g))
+
+pub flagged-one : (before : List ℕ) (w : ℕ) → FlagRight before w → Flagged before (w ∷ [])
+unfolding Flagged
+flagged-one before w f = (f, tt)
+
+pub flagged-at : (before line : List ℕ) → Flagged before line → (k : ℕ) → k < length line → FlagRight (before ++ take k line) (getD line k 0)
+unfolding Flagged
+flagged-at before [] f k l = absurd (let no′ : ⊥ = omega arith in no′)
+flagged-at before (w ∷ line) f zero l = rw (append-none before) (f .0)
+flagged-at before (w ∷ line) f (suc k) l =
+    rw (append-snoc before w (take k line)) at (flagged-at (before ++ (w ∷ [])) line (f .1) k (omega arith))
