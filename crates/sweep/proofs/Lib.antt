@@ -8,4 +8,8 @@ pub mod Crossings
 pub mod Coordinates
 pub mod Layers
 pub mod Sweeps
+pub mod Keeping
+pub mod Bounds
+pub mod Collections
+pub mod Spreads
 pub mod Updates

@@ -3,3 +3,4 @@
 pub mod Points
 pub mod Line
 pub mod Strips
+pub mod Limits
