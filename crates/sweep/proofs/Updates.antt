@@ -1,143 +1,248 @@
--- One more point u: the trials' corners with u are counted in their stead (laws 3 and 4).
-use Prim.Native.Nat.{ℕ, suc, _+_, _-_, _≤_, _<_, max}
+-- One more point u: the trials' corners with u are counted in their stead (laws 3 and 4), and of these only the ones
+-- within the limits (law 6).
+use Prim.Native.Nat.{ℕ, zero, suc, _+_, _-_, _≤_, _<_, max}
 use mathlib.Core.Path.{_≡_, refl, sym, ap, _∙_, fun-ext}
+use mathlib.Core.Bool.{Bool, true, false}
 use mathlib.Core.List.{List, [], _∷_, _++_, map, map-map}
+use mathlib.Core.Logic.{_⊎_, inl, inr}
 use native.Mathlib.Decide.{decLe}
 use native.Mathlib.Omega.{arith}
-use lib.ListN.{length, take, drop, getD, set, length-set, length-map, List·getD-eq-default}
-use lib.Seq.{take-at, getD-set-same, getD-set-other}
-use Rattle.hypervolume.specs.Cells.{join, edges}
+use lib.ListN.{length, take, drop, getD, replicate, length-append, length-drop, length-take, length-map, length-replicate, getD-replicate, List·getD-append, List·getD-eq-default}
+use lib.Seq.{take-at, take-all, length-take-le, getD-take, getD-drop, getD-append-add}
+use Rattle.hypervolume.specs.Cells.{dominates, join, edges}
 use Rattle.hypervolume.specs.Counts.{total, contribution, gain, contributions, joints}
-use Rattle.hypervolume.proofs.Counting.{joint-corner, gain-edges}
+use Rattle.hypervolume.proofs.Counting.{joint-corner, gain-edges, Twice}
 use Rattle.sweep.specs.Points.{points, Small, Ascending, Ready}
-use Rattle.sweep.proofs.Lists.{getD-mapped, front-then}
+use Rattle.sweep.specs.Limits.{Alike, Limits, kept, corners, Collecting, Raised, Stands, Collected, Spreading, spread}
+use Rattle.sweep.proofs.Lists.{ascending-at, getD-mapped, front-then}
+use Rattle.sweep.proofs.Coordinates.{points-length, points-at}
 use Rattle.sweep.proofs.Sweeps.{three}
+use Rattle.sweep.proofs.Keeping.{kept-total, kept-contribution, rest-contribution, limit-twice}
+use Rattle.sweep.proofs.Collections.{corners-length, corner-at}
+use Rattle.sweep.proofs.Spreads.{Due, due-right, due-beyond, spread-length}
 
--- Filling in the corners' coordinates on one axis.
-abbrev pub raised : ℕ → List ℕ → List ℕ
-raised u l = map (λ x. max u x) l
-
-pub record Filled (src : List ℕ) (u : ℕ) (old dst : List ℕ) (i : ℕ) : Type 0 where
-  pub room : length src ≤ length old
-  pub within : i ≤ length src
-  pub alike : length dst ≡ length old
-  pub before : (j : ℕ) → j < i → getD dst j 0 ≡ max u (getD src j 0)
-  pub after : (j : ℕ) → i ≤ j → getD dst j 0 ≡ getD old j 0
-
-pub filled-none : (src : List ℕ) (u : ℕ) (old : List ℕ) → length src ≤ length old → Filled src u old old 0
-filled-none src u old l =
-    record {
-      room = l;
-      within = omega arith;
-      alike = refl;
-      before = λ j m. absurd (let no′ : ⊥ = omega arith in no′);
-      after = λ j m. refl;
-    }
-
-pub filled-more : {src : List ℕ} {u : ℕ} {old dst : List ℕ} {i v : ℕ} → Filled src u old dst i → i < length src → v ≡ max u (getD src i 0) → Filled src u old (set dst i v) (i + 1)
-filled-more {src} {u} {old} {dst} {i} {v} h l e =
-    record {
-      room = h .room;
-      within = omega arith;
-      alike = length-set dst i v ∙ h .alike;
-      before = λ j m. go j m (decLe (suc j) i);
-      after = λ j m. getD-set-other dst i j v 0 (λ q. omega arith) ∙ h .after j (omega arith);
-    }
-  where
-    go : (j : ℕ) → j < i + 1 → Dec (j < i) → getD (set dst i v) j 0 ≡ max u (getD src j 0)
-    go j m (yes a) = getD-set-other dst i j v 0 (λ q. omega arith) ∙ h .before j a
-    go j m (no a) =
-        let last : j ≡ i = omega arith in
-        rw (last, getD-set-same dst i v 0 (omega (arith, h .alike, h .room))) e
-
-pub filled-end : {src : List ℕ} {u : ℕ} {old dst : List ℕ} {i : ℕ} → Filled src u old dst i → length src ≤ i → dst ≡ map (λ x. max u x) src ++ drop (length src) old
-filled-end {src} {u} {old} {dst} {i} h l =
-    let long : length (raised u src) ≡ length src = length-map src (λ x. max u x) in
-    rw (← long)
-    (front-then dst (raised u src) old (h .alike)
-    (omega (arith, h .room))
-    (λ j m. h .before j (omega arith) ∙ sym (getD-mapped (λ x. max u x) 0 src j (omega arith)))
-    (λ j m. h .after j (omega (arith, h .within))))
-
--- The part that is lent on.
-pub filled-part : (src : List ℕ) (u : ℕ) (old dst : List ℕ) (n : ℕ) → dst ≡ map (λ x. max u x) src ++ drop (length src) old → length src ≡ n → take n dst ≡ map (λ x. max u x) src
-filled-part src u old dst n e f = rw e (take-at (raised u src) (drop (length src) old) n (length-map src (λ x. max u x) ∙ f))
-
--- The corners' lists are as the sweep asks.
-raised-small : (u : ℕ) (l : List ℕ) → u ≤ 1048576 → Small l → Small (raised u l)
-raised-small u l p h k = go (decLe (suc k) (length l))
-  where
-    go : Dec (k < length l) → getD (raised u l) k 0 ≤ 1048576
-    go (yes a) = rw (getD-mapped (λ x. max u x) 0 l k a) (omega (arith, h k))
-    go (no a) =
-        rw (List·getD-eq-default (raised u l) 0 {n = k} (omega (arith, length-map l (λ x. max u x)))) (omega arith)
-
-raised-ascending : (u : ℕ) (l : List ℕ) → Ascending l → Ascending (raised u l)
-raised-ascending u l h k m =
-    let long : length (raised u l) ≡ length l = length-map l (λ x. max u x) in
-    rw (getD-mapped (λ x. max u x) 0 l k (omega arith), getD-mapped (λ x. max u x) 0 l (suc k) (omega arith))
-    (omega (arith, h k (let n : suc k < length l = omega arith in n)))
-
-raised-ready : {xs ys zs r out : List ℕ} (u : List ℕ) → Ready xs ys zs r out → Small u → Ready (raised (getD u 0 0) xs) (raised (getD u 1 0) ys) (raised (getD u 2 0) zs) r out
-raised-ready {xs} {ys} {zs} {r} {out} u h s =
-    let xs-long : length (raised (getD u 0 0) xs) ≡ length xs = length-map xs (λ x. max (getD u 0 0) x) in
-    let ys-long : length (raised (getD u 1 0) ys) ≡ length ys = length-map ys (λ x. max (getD u 1 0) x) in
-    let zs-long : length (raised (getD u 2 0) zs) ≡ length zs = length-map zs (λ x. max (getD u 2 0) x) in
-    record {
-      few = omega arith;
-      ys-many = omega arith;
-      zs-many = omega arith;
-      room = omega arith;
-      xs-small = raised-small (getD u 0 0) xs (s 0) (h .xs-small);
-      ys-small = raised-small (getD u 1 0) ys (s 1) (h .ys-small);
-      zs-small = raised-small (getD u 2 0) zs (s 2) (h .zs-small);
-      reference-small = h .reference-small;
-      rising = raised-ascending (getD u 2 0) zs (h .rising);
-    }
-
--- They hold the corners.
-raised-points : (x y z : ℕ) (xs ys zs : List ℕ) → points (raised x xs) (raised y ys) (raised z zs) ≡ map (join (x ∷ y ∷ z ∷ [])) (points xs ys zs)
-unfolding points join
-raised-points x y z [] ys zs = refl
-raised-points x y z (a ∷ xs) [] zs = refl
-raised-points x y z (a ∷ xs) (b ∷ ys) [] = refl
-raised-points x y z (a ∷ xs) (b ∷ ys) (d ∷ zs) = ap (λ l. (max x a ∷ max y b ∷ max z d ∷ []) ∷ l) (raised-points x y z xs ys zs)
-
-corners-points : (u xs ys zs : List ℕ) → length u ≡ 3 → points (raised (getD u 0 0) xs) (raised (getD u 1 0) ys) (raised (getD u 2 0) zs) ≡ map (join u) (points xs ys zs)
-corners-points u xs ys zs e =
-    raised-points (getD u 0 0) (getD u 1 0) (getD u 2 0) xs ys zs ∙ ap (λ v. map (join v) (points xs ys zs)) (three u e)
-
-corners-total : (r u xs ys zs : List ℕ) → length u ≡ 3 → edges r u ≡ total r (points (raised (getD u 0 0) xs) (raised (getD u 1 0) ys) (raised (getD u 2 0) zs)) + gain r (points xs ys zs) u
-corners-total r u xs ys zs e = rw (corners-points u xs ys zs e) (gain-edges r (points xs ys zs) u)
-
-corners-joints : (r u xs ys zs : List ℕ) → length u ≡ 3 → contributions r (points (raised (getD u 0 0) xs) (raised (getD u 1 0) ys) (raised (getD u 2 0) zs)) ≡ joints r (points xs ys zs) u
+-- The joint contributions with u are the corners' contributions.
+corners-joints : (r u : List ℕ) (trials : List (List ℕ)) → contributions r (map (join u) trials) ≡ joints r trials u
 unfolding contributions joints
-corners-joints r u xs ys zs e =
-    rw (corners-points u xs ys zs e)
-    (map-map (λ t. contribution r (map (join u) (points xs ys zs)) t) (join u) (points xs ys zs)
-    ∙ ap (λ f. map f (points xs ys zs)) (fun-ext (λ t. sym (joint-corner r (points xs ys zs) u t))))
+corners-joints r u trials =
+    map-map (λ t. contribution r (map (join u) trials) t) (join u) trials
+    ∙ ap (λ f. map f trials) (fun-ext (λ t. sym (joint-corner r trials u t)))
 
--- The lists that have been filled in, and what the sweep answers of them.
-pub record Cornered (u xs ys zs cx cy cz : List ℕ) : Type 0 where
+-- The collected coordinates are as the sweep asks.
+raised-small : (u : ℕ) (src places ks : List ℕ) (m : ℕ) → u ≤ 1048576 → Small src → Raised u src places ks m → Small (take m ks)
+raised-small u src places ks m s h e k = go (decLe (suc k) m)
+  where
+    go : Dec (k < m) → getD (take m ks) k 0 ≤ 1048576
+    go (yes a) = rw (getD-take m ks k 0 a, e k a) (omega (arith, h (getD places k 0)))
+    go (no a) = rw (List·getD-eq-default (take m ks) 0 {n = k} (omega (arith, length-take m ks))) (omega arith)
+
+raised-ascending : (u : ℕ) (src places ks : List ℕ) (m : ℕ) → Ascending src → Raised u src places ks m → ((k : ℕ) → k < m → getD places k 0 < length src) → ((k : ℕ) → suc k < m → getD places k 0 < getD places (suc k) 0) → Ascending (take m ks)
+raised-ascending u src places ks m h e inside rising k l =
+    let before : suc k < m = omega (arith, length-take m ks) in
+    let upward : getD src (getD places k 0) 0 ≤ getD src (getD places (suc k) 0) 0 =
+    ascending-at src h (getD places k 0) (getD places (suc k) 0) (omega (arith, rising k before)) (inside (suc k) before) in
+    rw (getD-take m ks k 0 (omega arith), getD-take m ks (suc k) 0 before, e k (omega arith), e (suc k) before)
+    (omega arith)
+
+-- All that is known once the corners have been collected.
+pub record Prepared (u xs ys zs r out limit kx ky kz places : List ℕ) (m : ℕ) : Type 0 where
   pub axes : length u ≡ 3
-  pub x : cx ≡ raised (getD u 0 0) xs
-  pub y : cy ≡ raised (getD u 1 0) ys
-  pub z : cz ≡ raised (getD u 2 0) zs
+  pub ready : Ready xs ys zs r out
+  pub small : Small u
+  pub limits : Limits (points xs ys zs) u limit
+  pub kx-long : length kx ≡ 512
+  pub ky-long : length ky ≡ 512
+  pub kz-long : length kz ≡ 512
+  pub places-long : length places ≡ 512
+  pub collected : Collected xs ys zs u limit (length xs) kx ky kz places m
 
-module _ {u xs ys zs cx cy cz : List ℕ} (h : Cornered u xs ys zs cx cy cz) where
-  pub cornered-ready : {r out : List ℕ} → Ready xs ys zs r out → Small u → Ready cx cy cz r out
-  cornered-ready p s = rw (h .x, h .y, h .z) (raised-ready u p s)
+module _ {u xs ys zs r out limit kx ky kz places : List ℕ} {m : ℕ} (h : Prepared u xs ys zs r out limit kx ky kz places m) where
+  abbrev all : List (List ℕ)
+  all = corners u xs ys zs
 
-  whole : (r : List ℕ) → edges r u ≡ total r (points cx cy cz) + gain r (points xs ys zs) u
-  whole r = rw (h .x, h .y, h .z) (corners-total r u xs ys zs (h .axes))
+  abbrev some : List (List ℕ)
+  some = points (take m kx) (take m ky) (take m kz)
 
-  pub cornered-enough : (r : List ℕ) {covered product : ℕ} → covered ≡ total r (points cx cy cz) → product ≡ edges r u → covered ≤ product
-  cornered-enough r e f = omega (arith, whole r)
+  abbrev test : List ℕ → Bool
+  test t = dominates t limit
 
-  pub cornered-gain : (r : List ℕ) {covered product : ℕ} → covered ≡ total r (points cx cy cz) → product ≡ edges r u → product - covered ≡ gain r (points xs ys zs) u
-  cornered-gain r e f = omega (arith, whole r)
+  few : m ≤ 512
+  few = omega (arith, h .collected .few, h .ready .few)
 
-  pub cornered-joints : (r out : List ℕ) {left : List ℕ} → left ≡ contributions r (points cx cy cz) ++ drop (length cx) out → left ≡ joints r (points xs ys zs) u ++ drop (length xs) out
-  cornered-joints r out e =
-      e
-      ∙ rw (h .x, h .y, h .z, length-map xs (λ x. max (getD u 0 0) x), corners-joints r u xs ys zs (h .axes))
+  kx-many : length (take m kx) ≡ m
+  kx-many = length-take-le m kx (omega (arith, few, h .kx-long))
+
+  ky-many : length (take m ky) ≡ m
+  ky-many = length-take-le m ky (omega (arith, few, h .ky-long))
+
+  kz-many : length (take m kz) ≡ m
+  kz-many = length-take-le m kz (omega (arith, few, h .kz-long))
+
+  pub places-many : length (take m places) ≡ m
+  places-many = length-take-le m places (omega (arith, few, h .places-long))
+
+  alike : Alike xs ys zs
+  alike = record { ys-many = h .ready .ys-many; zs-many = h .ready .zs-many }
+
+  pub prepared-ready : {counts : List ℕ} → length counts ≡ 512 → Ready (take m kx) (take m ky) (take m kz) r counts
+  prepared-ready e =
+      record {
+        few = omega (arith, few, kx-many);
+        ys-many = ky-many ∙ sym kx-many;
+        zs-many = kz-many ∙ sym kx-many;
+        room = omega (arith, few, kx-many);
+        xs-small = raised-small (getD u 0 0) xs places kx m (h .small 0) (h .ready .xs-small) (h .collected .x);
+        ys-small = raised-small (getD u 1 0) ys places ky m (h .small 1) (h .ready .ys-small) (h .collected .y);
+        zs-small = raised-small (getD u 2 0) zs places kz m (h .small 2) (h .ready .zs-small) (h .collected .z);
+        reference-small = h .ready .reference-small;
+        rising =
+            raised-ascending (getD u 2 0) zs places kz m (h .ready .rising) (h .collected .z)
+            (λ k l. omega (arith, h .collected .inside k l, h .ready .zs-many)) (h .collected .rising);
+      }
+
+  -- The corners collected are those within the limits.
+  kept-all : some ≡ kept test all
+  kept-all = h .collected .all ∙ ap (kept test) (take-all (length xs) all (omega (arith, corners-length u alike)))
+
+  -- The others may be left out.
+  point-small : (j a : ℕ) → getD (getD xs j 0 ∷ getD ys j 0 ∷ getD zs j 0 ∷ []) a 0 ≤ 1048576
+  point-small j zero = h .ready .xs-small j
+  point-small j (suc zero) = h .ready .ys-small j
+  point-small j (suc (suc zero)) = h .ready .zs-small j
+  point-small j (suc (suc (suc a))) = omega arith
+
+  left-out : (j : ℕ) → j < length all → test (getD all j []) ≡ false → Twice (kept test all) (getD all j [])
+  left-out j l e =
+      let here : j < length xs = omega (arith, corners-length u alike) in
+      let corner = corner-at u alike j here in
+      rw corner
+      (limit-twice (h .limits) long (getD xs j 0 ∷ getD ys j 0 ∷ getD zs j 0 ∷ []) (point-small j) (rw corner at e))
+    where
+      long : (i : ℕ) → i < length (points xs ys zs) → length (getD (points xs ys zs) i []) ≤ length u
+      long i q =
+          rw (points-at xs ys zs i (h .ready .ys-many) (h .ready .zs-many) (omega (arith, points-length xs ys zs (h .ready .ys-many) (h .ready .zs-many))))
+          (omega (arith, h .axes))
+
+  whole : edges r u ≡ total r some + gain r (points xs ys zs) u
+  whole = rw (kept-all, kept-total r test all left-out) (gain-edges r (points xs ys zs) u)
+
+  pub prepared-enough : {covered product : ℕ} → covered ≡ total r some → product ≡ edges r u → covered ≤ product
+  prepared-enough e f = omega (arith, whole)
+
+  pub prepared-gain : {covered product : ℕ} → covered ≡ total r some → product ≡ edges r u → product - covered ≡ gain r (points xs ys zs) u
+  prepared-gain e f = omega (arith, whole)
+
+  -- The count that is due to the j-th point.
+  abbrev due : ℕ → ℕ
+  due j = contribution r all (getD all j [])
+
+  some-many : length some ≡ m
+  some-many = points-length (take m kx) (take m ky) (take m kz) (ky-many ∙ sym kx-many) (kz-many ∙ sym kx-many) ∙ kx-many
+
+  some-at : (k : ℕ) → k < m → getD some k [] ≡ getD all (getD places k 0) []
+  unfolding join
+  some-at k l =
+      points-at (take m kx) (take m ky) (take m kz) k (ky-many ∙ sym kx-many) (kz-many ∙ sym kx-many) (omega (arith, kx-many))
+      ∙ rw (getD-take m kx k 0 l, getD-take m ky k 0 l, getD-take m kz k 0 l, h .collected .x k l, h .collected .y k l, h .collected .z k l)
+      (ap (λ v. join v (getD xs (getD places k 0) 0 ∷ getD ys (getD places k 0) 0 ∷ getD zs (getD places k 0) 0 ∷ [])) (three u (h .axes)))
+      ∙ sym (corner-at u alike (getD places k 0) (h .collected .inside k l))
+
+  -- What the sweep leaves, and the counts cleared before it.
+  module _ (blank : List ℕ) {counts left : List ℕ} (e : counts ≡ contributions r some ++ drop (length (take m kx)) blank) (f : left ≡ replicate (length xs) 0 ++ drop (length xs) out) where
+    counts-many : length (contributions r some) ≡ m
+    unfolding contributions
+    counts-many = length-map some (λ t. contribution r some t) ∙ some-many
+
+    lent : take m counts ≡ contributions r some
+    lent = rw e (take-at (contributions r some) (drop (length (take m kx)) blank) m counts-many)
+
+    lent-at : (k : ℕ) → k < m → getD (take m counts) k 0 ≡ due (getD places k 0)
+    unfolding contributions
+    lent-at k l =
+        rw lent
+        (getD-mapped (λ t. contribution r some t) [] some k (omega (arith, some-many))
+        ∙ rw (some-at k l, kept-all) (kept-contribution r test all left-out (getD all (getD places k 0) [])))
+
+    left-long : length left ≡ length out
+    left-long = rw f (omega (arith, length-append (replicate (length xs) 0) (drop (length xs) out), length-replicate {A = ℕ} (length xs) 0, length-drop (length xs) out, h .ready .room))
+
+    left-zero : (j : ℕ) → j < length xs → getD left j 0 ≡ 0
+    left-zero j l =
+        rw (f, List·getD-append (replicate (length xs) 0) (drop (length xs) out) 0 j (omega (arith, length-replicate {A = ℕ} (length xs) 0)))
+        (getD-replicate (length xs) j 0 0 l)
+
+    left-old : (j : ℕ) → length xs ≤ j → getD left j 0 ≡ getD out j 0
+    left-old j l =
+        let split : j ≡ length {A = ℕ} (replicate (length xs) 0) + (j - length xs) = omega (arith, length-replicate {A = ℕ} (length xs) 0) in
+        let again : j ≡ length xs + (j - length xs) = omega arith in
+        rw f
+        (ap (λ i. getD (replicate (length xs) 0 ++ drop (length xs) out) i 0) split
+        ∙ getD-append-add (replicate (length xs) 0) (drop (length xs) out) (j - length xs) 0
+        ∙ getD-drop (length xs) out (j - length xs) 0
+        ∙ ap (λ i. getD out i 0) (sym again))
+
+    inside : (k : ℕ) → k < length (take m places) → getD (take m places) k 0 < length xs
+    inside k l =
+        let first : k < m = omega (arith, places-many) in
+        rw (getD-take m places k 0 first) (h .collected .inside k first)
+
+    pub prepared-spreading : Spreading (take m counts) (take m places) left
+    prepared-spreading =
+        record {
+          many = rw lent (counts-many ∙ sym places-many);
+          inside = λ k l. omega (arith, inside k l, left-long, h .ready .room);
+        }
+
+    spreads : Due due left (take m places) (take m counts) (length xs)
+    spreads =
+        record {
+          room = omega (arith, left-long, h .ready .room);
+          many = prepared-spreading .many;
+          inside = inside;
+          right = right;
+          every = λ j l. every j l (test (getD all j [])) refl;
+        }
+      where
+        right : (k : ℕ) → k < length (take m places) → getD (take m counts) k 0 ≡ due (getD (take m places) k 0)
+        right k l =
+            let first : k < m = omega (arith, places-many) in
+            rw (getD-take m places k 0 first) (lent-at k first)
+
+        every : (j : ℕ) → j < length xs → (b : Bool) → test (getD all j []) ≡ b → (getD left j 0 ≡ due j) ⊎ Stands (take m places) (length (take m places)) j
+        every j l true q =
+            let s = h .collected .every j l q in
+            inr
+            (record {
+              k = s .k;
+              within = omega (arith, s .within, places-many);
+              here = getD-take m places (s .k) 0 (s .within) ∙ s .here;
+            })
+        every j l false q =
+            inl (left-zero j l ∙ sym (rest-contribution r test all left-out j (omega (arith, corners-length u alike)) q))
+
+    joints-at : (j : ℕ) → j < length xs → getD (joints r (points xs ys zs) u) j 0 ≡ due j
+    unfolding contributions
+    joints-at j l =
+        rw (← (corners-joints r u (points xs ys zs)))
+        (getD-mapped (λ t. contribution r all t) [] all j (omega (arith, corners-length u alike)))
+
+    joints-many : length (joints r (points xs ys zs) u) ≡ length xs
+    unfolding contributions
+    joints-many =
+        rw (← (corners-joints r u (points xs ys zs)))
+        (length-map all (λ t. contribution r all t) ∙ corners-length u alike)
+
+    pub prepared-joints : {end : List ℕ} → end ≡ spread left (take m places) (take m counts) → end ≡ joints r (points xs ys zs) u ++ drop (length xs) out
+    prepared-joints {end} q =
+        rw (← joints-many)
+        (front-then end (joints r (points xs ys zs) u) out
+        (rw q (spread-length left (take m places) (take m counts) ∙ left-long))
+        (omega (arith, joints-many, h .ready .room))
+        (λ j l. front j (omega (arith, joints-many)))
+        (λ j l. back j (omega (arith, joints-many))))
+      where
+        front : (j : ℕ) → j < length xs → getD end j 0 ≡ getD (joints r (points xs ys zs) u) j 0
+        front j l = rw (q, due-right due (length xs) left (take m places) (take m counts) spreads j l) (sym (joints-at j l))
+
+        back : (j : ℕ) → length xs ≤ j → getD end j 0 ≡ getD out j 0
+        back j l = rw q (due-beyond due (length xs) left (take m places) (take m counts) spreads j l ∙ left-old j l)

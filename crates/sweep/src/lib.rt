@@ -9,6 +9,7 @@ ghost use Rattle.hypervolume.specs.Counts.{total, gain, contributions, joints};
 ghost use Rattle.sweep.specs.Points.{points, Small, Ready};
 
 mod column;
+mod limits;
 mod line;
 mod number;
 mod strips;
@@ -43,18 +44,6 @@ pub fn sweep(xs: &[u64], ys: &[u64], zs: &[u64], reference: Point, out: &mut [u6
     volume
 }
 
-// The coordinates, on one axis, of the upper corners of one point with the points of a list.
-fn corners(src: &[u64], coordinate: u64, dst: &mut [u64])
-    requires { ⌜ length (now src) ≤ length (now dst) ⌝ }
-    ensures { λ _. ⌜ now (dst .exit) ≡ map (λ x. max coordinate x) (now (src .entry)) ++ drop (length (now (src .entry))) (now (dst .entry)) ⌝ }
-{
-    let mut i: usize = 0;
-    while i < src.len() {
-        dst[i] = number::larger(coordinate, src[i]);
-        i = i + 1;
-    }
-}
-
 // The gain of u over the points, and in `out` its joint contribution with each. A trial shares with u just what its
 // upper corner with u dominates; of the edge product of u the gain is what no corner dominates.
 pub fn update(
@@ -69,13 +58,25 @@ pub fn update(
     ensures gain { λ r. ⌜ r ≡ gain (reference .at) (points (now (xs .entry)) (now (ys .entry)) (now (zs .entry))) (u .at) ⌝ }
     ensures joints { λ r. ⌜ now (out .exit) ≡ joints (reference .at) (points (now (xs .entry)) (now (ys .entry)) (now (zs .entry))) (u .at) ++ drop (length (now (xs .entry))) (now (out .entry)) ⌝ }
 {
-    let n = xs.len();
-    let mut cx = [0u64; 512];
-    let mut cy = [0u64; 512];
-    let mut cz = [0u64; 512];
-    corners(xs, u.at[0] as u64, &mut cx);
-    corners(ys, u.at[1] as u64, &mut cy);
-    corners(zs, u.at[2] as u64, &mut cz);
-    let covered = sweep(&cx[..n], &cy[..n], &cz[..n], reference, out);
+    let limit = limits::limits(xs, ys, zs, u);
+    let mut kx = [0u64; 512];
+    let mut ky = [0u64; 512];
+    let mut kz = [0u64; 512];
+    let mut places = [0usize; 512];
+    let m = limits::collect(
+        xs,
+        ys,
+        zs,
+        u,
+        limit,
+        &mut kx,
+        &mut ky,
+        &mut kz,
+        &mut places,
+        out,
+    );
+    let mut counts = [0u64; 512];
+    let covered = sweep(&kx[..m], &ky[..m], &kz[..m], reference, &mut counts);
+    limits::spread(&counts[..m], &places[..m], out);
     u.edges(reference) - covered
 }

@@ -1,0 +1,249 @@
+-- Collecting the corners within a limit.
+use Prim.Native.Nat.{ℕ, zero, suc, _+_, _-_, _≤_, _<_, max}
+use mathlib.Core.Path.{_≡_, refl, sym, ap, _∙_}
+use mathlib.Core.Bool.{Bool, true, false, not}
+use mathlib.Core.List.{List, [], _∷_, _++_, map, append-nil}
+use native.Mathlib.Decide.{decLe}
+use native.Mathlib.Nat.{add-zero}
+use native.Mathlib.Numerals.{add-one}
+use native.Mathlib.Omega.{arith}
+use lib.ListN.{length, take, drop, getD, set, replicate, length-set, length-map, length-replicate, List·getD-map}
+use lib.Seq.{take-suc, take-suc-set, take-all, length-take-le, drop-cons, set-at, getD-set-same, getD-set-other}
+use Rattle.hypervolume.specs.Cells.{both, holds, dominates, join}
+use Rattle.hypervolume.specs.Counts.{cover}
+use Rattle.hypervolume.proofs.Dominance.{dominates-join, cover-append}
+use Rattle.hypervolume.proofs.Counting.{SameCover}
+use Rattle.sweep.specs.Points.{points}
+use Rattle.sweep.specs.Limits.{Alike, pick, kept, corners, Collecting, Raised, Stands, Collected}
+use Rattle.sweep.proofs.Coordinates.{points-length, points-at}
+use Rattle.sweep.proofs.Sweeps.{three}
+use Rattle.sweep.proofs.Keeping.{corner-within}
+
+-- One more point.
+kept-more : (test : List ℕ → Bool) (trials : List (List ℕ)) (t : List ℕ) → kept test (trials ++ (t ∷ [])) ≡ kept test trials ++ pick (test t) t []
+unfolding kept
+kept-more test [] t = refl
+kept-more test (s ∷ trials) t = go (test s) (kept-more test trials t)
+  where
+    go : (b : Bool) → kept test (trials ++ (t ∷ [])) ≡ kept test trials ++ pick (test t) t [] → pick b s (kept test (trials ++ (t ∷ []))) ≡ pick b s (kept test trials) ++ pick (test t) t []
+    go true e = ap (λ l. s ∷ l) e
+    go false e = e
+
+points-more : (xs ys zs : List ℕ) (x y z : ℕ) → length ys ≡ length xs → length zs ≡ length xs → points (xs ++ (x ∷ [])) (ys ++ (y ∷ [])) (zs ++ (z ∷ [])) ≡ points xs ys zs ++ ((x ∷ y ∷ z ∷ []) ∷ [])
+unfolding points
+points-more [] [] [] x y z e f = refl
+points-more [] [] (c ∷ zs) x y z e f = absurd (let no′ : ⊥ = omega arith in no′)
+points-more [] (b ∷ ys) zs x y z e f = absurd (let no′ : ⊥ = omega arith in no′)
+points-more (a ∷ xs) [] zs x y z e f = absurd (let no′ : ⊥ = omega arith in no′)
+points-more (a ∷ xs) (b ∷ ys) [] x y z e f = absurd (let no′ : ⊥ = omega arith in no′)
+points-more (a ∷ xs) (b ∷ ys) (c ∷ zs) x y z e f = ap (λ l. (a ∷ b ∷ c ∷ []) ∷ l) (points-more xs ys zs x y z (omega arith) (omega arith))
+
+-- The corners, by their points.
+pub corners-length : {xs ys zs : List ℕ} (u : List ℕ) → Alike xs ys zs → length (corners u xs ys zs) ≡ length xs
+corners-length {xs} {ys} {zs} u a = length-map (points xs ys zs) (join u) ∙ points-length xs ys zs (a .ys-many) (a .zs-many)
+
+getD-corner : (u : List ℕ) (trials : List (List ℕ)) (j : ℕ) → j < length trials → getD (map (join u) trials) j [] ≡ join u (getD trials j [])
+getD-corner u [] j l = absurd (let no′ : ⊥ = omega arith in no′)
+getD-corner u (t ∷ trials) zero l = refl
+getD-corner u (t ∷ trials) (suc j) l = getD-corner u trials j (omega arith)
+
+pub corner-at : {xs ys zs : List ℕ} (u : List ℕ) → Alike xs ys zs → (j : ℕ) → j < length xs → getD (corners u xs ys zs) j [] ≡ join u (getD xs j 0 ∷ getD ys j 0 ∷ getD zs j 0 ∷ [])
+corner-at {xs} {ys} {zs} u a j l =
+    getD-corner u (points xs ys zs) j (omega (arith, points-length xs ys zs (a .ys-many) (a .zs-many)))
+    ∙ ap (join u) (points-at xs ys zs j (a .ys-many) (a .zs-many) l)
+
+-- The loop. u is given by its coordinates.
+pub record Gathering (xs ys zs limit kx₀ ky₀ kz₀ places₀ out₀ : List ℕ) (ux uy uz : ℕ) (kx ky kz places out : List ℕ) (m i : ℕ) : Type 0 where
+  pub asked : Collecting xs ys zs (ux ∷ uy ∷ uz ∷ []) limit kx₀ ky₀ kz₀ places₀ out₀
+  pub within : i ≤ length xs
+  pub kx-long : length kx ≡ length kx₀
+  pub ky-long : length ky ≡ length ky₀
+  pub kz-long : length kz ≡ length kz₀
+  pub places-long : length places ≡ length places₀
+  pub out-long : length out ≡ length out₀
+  pub cleared : out ≡ replicate i 0 ++ drop i out₀
+  pub collected : Collected xs ys zs (ux ∷ uy ∷ uz ∷ []) limit i kx ky kz places m
+
+pub gathering-none : {xs ys zs limit kx ky kz places out : List ℕ} (u : List ℕ) → length u ≡ 3 → Collecting xs ys zs u limit kx ky kz places out → Gathering xs ys zs limit kx ky kz places out (getD u 0 0) (getD u 1 0) (getD u 2 0) kx ky kz places out 0 0
+unfolding points kept
+gathering-none u e h =
+    record {
+      asked = rw (three u e) h;
+      within = omega arith;
+      kx-long = refl;
+      ky-long = refl;
+      kz-long = refl;
+      places-long = refl;
+      out-long = refl;
+      cleared = refl;
+      collected =
+          record {
+            few = omega arith;
+            all = refl;
+            x = λ k l. absurd (let no′ : ⊥ = omega arith in no′);
+            y = λ k l. absurd (let no′ : ⊥ = omega arith in no′);
+            z = λ k l. absurd (let no′ : ⊥ = omega arith in no′);
+            inside = λ k l. absurd (let no′ : ⊥ = omega arith in no′);
+            rising = λ k l. absurd (let no′ : ⊥ = omega arith in no′);
+            every = λ j l. absurd (let no′ : ⊥ = omega arith in no′);
+          };
+    }
+
+-- One more corner's coordinate on one axis.
+raised-more : (u : ℕ) (src places ks : List ℕ) (m i v : ℕ) → Raised u src places ks m → m < length places → m < length ks → v ≡ max u (getD src i 0) → Raised u src (set places m i) (set ks m v) (m + 1)
+raised-more u src places ks m i v h p q e k l = go (decLe (suc k) m)
+  where
+    go : Dec (k < m) → getD (set ks m v) k 0 ≡ max u (getD src (getD (set places m i) k 0) 0)
+    go (yes a) =
+        rw (getD-set-other ks m k v 0 (λ f. omega arith), getD-set-other places m k i 0 (λ f. omega arith))
+        (h k a)
+    go (no a) =
+        let last : k ≡ m = omega arith in
+        rw (last, getD-set-same ks m v 0 q, getD-set-same places m i 0 p) e
+
+-- One more count cleared.
+cleared-more : (i : ℕ) (old out : List ℕ) → i < length old → out ≡ replicate i 0 ++ drop i old → set out i 0 ≡ replicate (i + 1) 0 ++ drop (i + 1) old
+cleared-more i old out l e =
+    rw (e, drop-cons old i 0 l, add-one i, set-at (replicate i 0) (getD old i 0) (drop (suc i) old) 0 i (length-replicate i 0))
+    (further i 0 (drop (suc i) old))
+  where
+    further : (n v : ℕ) (rest : List ℕ) → replicate n v ++ (v ∷ rest) ≡ replicate (suc n) v ++ rest
+    further zero v rest = refl
+    further (suc n) v rest = ap (λ l. v ∷ l) (further n v rest)
+
+-- A turn.
+module _ {xs ys zs limit kx₀ ky₀ kz₀ places₀ out₀ : List ℕ} {ux uy uz : ℕ} {kx ky kz places out : List ℕ} {m i : ℕ} (h : Gathering xs ys zs limit kx₀ ky₀ kz₀ places₀ out₀ ux uy uz kx ky kz places out m i) (l : i < length xs) where
+  abbrev p : List ℕ
+  p = getD xs i 0 ∷ getD ys i 0 ∷ getD zs i 0 ∷ []
+
+  abbrev u : List ℕ
+  u = ux ∷ uy ∷ uz ∷ []
+
+  old : Collected xs ys zs u limit i kx ky kz places m
+  old = h .collected
+
+  here : getD (corners u xs ys zs) i [] ≡ join u p
+  here = corner-at u (h .asked .alike) i l
+
+  next : take (i + 1) (corners u xs ys zs) ≡ take i (corners u xs ys zs) ++ (join u p ∷ [])
+  next =
+      rw (add-one i, take-suc (corners u xs ys zs) i [] (omega (arith, corners-length u (h .asked .alike))), here)
+
+  tested : dominates (join u p) limit ≡ dominates p limit
+  tested = corner-within u p limit (h .asked .above)
+
+  kept-next : (t : Bool) → t ≡ dominates p limit → kept (λ t. dominates t limit) (take (i + 1) (corners u xs ys zs)) ≡ kept (λ t. dominates t limit) (take i (corners u xs ys zs)) ++ pick t (join u p) []
+  kept-next t e =
+      rw (next, kept-more (λ t. dominates t limit) (take i (corners u xs ys zs)) (join u p), tested, ← e)
+
+  pub gathering-skip : {t : Bool} → t ≡ dominates p limit → t ≡ false → Gathering xs ys zs limit kx₀ ky₀ kz₀ places₀ out₀ ux uy uz kx ky kz places (set out i 0) m (i + 1)
+  gathering-skip {t} e f =
+      record {
+        asked = h .asked;
+        within = omega arith;
+        kx-long = h .kx-long;
+        ky-long = h .ky-long;
+        kz-long = h .kz-long;
+        places-long = h .places-long;
+        out-long = length-set out i 0 ∙ h .out-long;
+        cleared = cleared-more i out₀ out (omega (arith, h .asked .out-room)) (h .cleared);
+        collected =
+            record {
+              few = omega (arith, old .few);
+              all = old .all ∙ sym (kept-next false (sym f ∙ e) ∙ append-nil _);
+              x = old .x;
+              y = old .y;
+              z = old .z;
+              inside = λ k q. omega (arith, old .inside k q);
+              rising = old .rising;
+              every = λ j q d. every j d q (decLe (suc j) i);
+            };
+      }
+    where
+      every : (j : ℕ) → dominates (getD (corners u xs ys zs) j []) limit ≡ true → j < i + 1 → Dec (j < i) → Stands places m j
+      every j d q (yes a) = old .every j a d
+      every j d q (no a) =
+          let last : j ≡ i = omega arith in
+          let never : false ≡ true = sym f ∙ e ∙ sym tested ∙ (rw (last, here) at d) in
+          absurd (let z : _≡_ {A = ℕ} 0 1 = cc in omega arith)
+
+  pub gathering-more : {t : Bool} {vx vy vz : ℕ} → t ≡ dominates p limit → t ≡ true → vx ≡ max ux (getD xs i 0) → vy ≡ max uy (getD ys i 0) → vz ≡ max uz (getD zs i 0) → Gathering xs ys zs limit kx₀ ky₀ kz₀ places₀ out₀ ux uy uz (set kx m vx) (set ky m vy) (set kz m vz) (set places m i) (set out i 0) (m + 1) (i + 1)
+  unfolding join
+  gathering-more {t} {vx} {vy} {vz} e f ex ey ez =
+      record {
+        asked = h .asked;
+        within = omega arith;
+        kx-long = length-set kx m vx ∙ h .kx-long;
+        ky-long = length-set ky m vy ∙ h .ky-long;
+        kz-long = length-set kz m vz ∙ h .kz-long;
+        places-long = length-set places m i ∙ h .places-long;
+        out-long = length-set out i 0 ∙ h .out-long;
+        cleared = cleared-more i out₀ out (omega (arith, h .asked .out-room)) (h .cleared);
+        collected =
+            record {
+              few = omega (arith, old .few);
+              all = all;
+              x = raised-more ux xs places kx m i vx (old .x) places-room kx-room ex;
+              y = raised-more uy ys places ky m i vy (old .y) places-room ky-room ey;
+              z = raised-more uz zs places kz m i vz (old .z) places-room kz-room ez;
+              inside = λ k q. inside k q (decLe (suc k) m);
+              rising = λ k q. rising k q (decLe (suc (suc k)) m);
+              every = λ j q d. every j d q (decLe (suc j) i);
+            };
+      }
+    where
+      places-room : m < length places
+      places-room = omega (arith, h .places-long, h .asked .places-room, old .few)
+
+      kx-room : m < length kx
+      kx-room = omega (arith, h .kx-long, h .asked .kx-room, old .few)
+
+      ky-room : m < length ky
+      ky-room = omega (arith, h .ky-long, h .asked .ky-room, old .few)
+
+      kz-room : m < length kz
+      kz-room = omega (arith, h .kz-long, h .asked .kz-room, old .few)
+
+      all : points (take (m + 1) (set kx m vx)) (take (m + 1) (set ky m vy)) (take (m + 1) (set kz m vz)) ≡ kept (λ t. dominates t limit) (take (i + 1) (corners u xs ys zs))
+      all =
+          let kx-many : length (take m kx) ≡ m = length-take-le m kx (omega arith) in
+          let ky-many : length (take m ky) ≡ m = length-take-le m ky (omega arith) in
+          let kz-many : length (take m kz) ≡ m = length-take-le m kz (omega arith) in
+          rw (add-one m, take-suc-set kx m vx kx-room, take-suc-set ky m vy ky-room, take-suc-set kz m vz kz-room, points-more (take m kx) (take m ky) (take m kz) vx vy vz (omega arith) (omega arith), old .all, ex, ey, ez)
+          (sym (kept-next true (sym f ∙ e)))
+
+      inside : (k : ℕ) → k < m + 1 → Dec (k < m) → getD (set places m i) k 0 < i + 1
+      inside k q (yes a) = rw (getD-set-other places m k i 0 (λ g. omega arith)) (omega (arith, old .inside k a))
+      inside k q (no a) =
+          let last : k ≡ m = omega arith in
+          rw (last, getD-set-same places m i 0 places-room) (omega arith)
+
+      rising : (k : ℕ) → suc k < m + 1 → Dec (suc k < m) → getD (set places m i) k 0 < getD (set places m i) (suc k) 0
+      rising k q (yes a) =
+          rw (getD-set-other places m k i 0 (λ g. omega arith), getD-set-other places m (suc k) i 0 (λ g. omega arith))
+          (old .rising k a)
+      rising k q (no a) =
+          let last : suc k ≡ m = omega arith in
+          rw (getD-set-other places m k i 0 (λ g. omega arith), last, getD-set-same places m i 0 places-room)
+          (old .inside k (omega arith))
+
+      every : (j : ℕ) → dominates (getD (corners u xs ys zs) j []) limit ≡ true → j < i + 1 → Dec (j < i) → Stands (set places m i) (m + 1) j
+      every j d q (yes a) =
+          let s = old .every j a d in
+          let first : s .k < m = s .within in
+          record {
+            k = s .k;
+            within = omega arith;
+            here = getD-set-other places m (s .k) i 0 (λ g. omega arith) ∙ s .here;
+          }
+      every j d q (no a) =
+          record {
+            k = m;
+            within = omega arith;
+            here = getD-set-same places m i 0 places-room ∙ omega arith;
+          }
+
+pub gathering-end : {xs ys zs limit kx₀ ky₀ kz₀ places₀ out₀ kx ky kz places out : List ℕ} {m i : ℕ} (u : List ℕ) → length u ≡ 3 → Gathering xs ys zs limit kx₀ ky₀ kz₀ places₀ out₀ (getD u 0 0) (getD u 1 0) (getD u 2 0) kx ky kz places out m i → length xs ≤ i → Collected xs ys zs u limit (length xs) kx ky kz places m × (out ≡ replicate (length xs) 0 ++ drop (length xs) out₀)
+gathering-end {xs} {i = i} u e h l =
+    let whole : i ≡ length xs = omega (arith, h .within) in
+    (rw (three u e, whole) at (h .collected), rw whole at (h .cleared))

@@ -1,0 +1,94 @@
+-- Which corners an update counts: those at most a limit on each axis.
+use Prim.Native.Nat.{ℕ, suc, _+_, _≤_, _<_, max}
+use mathlib.Core.Path.{_≡_}
+use mathlib.Core.Bool.{Bool, true, false}
+use mathlib.Core.List.{List, [], _∷_, map}
+use mathlib.Core.Logic.{_⊎_}
+use lib.Dec.{leb}
+use lib.ListN.{length, take, getD, set}
+use Rattle.hypervolume.specs.Cells.{dominates, join}
+use Rattle.hypervolume.specs.Counts.{cover}
+use Rattle.sweep.specs.declared.limits.Two.{Two}
+use Rattle.sweep.specs.Points.{points, Small}
+
+abbrev pub pickTwo : Bool → Two → Two → Two
+pickTwo true a b = a
+pickTwo false a b = b
+
+-- The two least numbers with one more.
+unfoldable pub twoWith : Two → ℕ → Two
+twoWith two n =
+    pickTwo (leb (two .second) n) two
+    (pickTwo (leb (two .least) n) (record { least = two .least; second = n })
+    (record { least = n; second = two .least }))
+
+-- n where the test holds; else 1,048,576, which limits nothing.
+unfoldable pub offer : Bool → ℕ → ℕ
+offer true n = n
+offer false n = 1048576
+
+-- Three lists of one length.
+pub record Alike (xs ys zs : List ℕ) : Type 0 where
+  pub ys-many : length ys ≡ length xs
+  pub zs-many : length zs ≡ length xs
+
+-- On each axis the limit is at least u. Where it limits anything, at least two of the points are at most u moved
+-- along that axis up to the limit.
+pub record Limits (trials : List (List ℕ)) (u limit : List ℕ) : Type 0 where
+  pub above : dominates u limit ≡ true
+  pub twice : (a : ℕ) → a < length limit → getD limit a 0 < 1048576 → 2 ≤ cover trials (set u a (getD limit a 0))
+
+-- The points that pass a test, in their order.
+abbrev pub pick : Bool → List ℕ → List (List ℕ) → List (List ℕ)
+pick true t trials = t ∷ trials
+pick false t trials = trials
+
+unfoldable pub kept : (List ℕ → Bool) → List (List ℕ) → List (List ℕ)
+kept test [] = []
+kept test (t ∷ trials) = pick (test t) t (kept test trials)
+
+-- The corners of u with the points.
+abbrev pub corners : List ℕ → List ℕ → List ℕ → List ℕ → List (List ℕ)
+corners u xs ys zs = map (join u) (points xs ys zs)
+
+-- What collecting the corners within a limit asks: room for all.
+pub record Collecting (xs ys zs u limit kx ky kz places out : List ℕ) : Type 0 where
+  pub alike : Alike xs ys zs
+  pub above : dominates u limit ≡ true
+  pub kx-room : length xs ≤ length kx
+  pub ky-room : length xs ≤ length ky
+  pub kz-room : length xs ≤ length kz
+  pub places-room : length xs ≤ length places
+  pub out-room : length xs ≤ length out
+
+-- The first m of `ks` are the corners' coordinates on one axis, for the points at the first m places.
+abbrev pub Raised : ℕ → List ℕ → List ℕ → List ℕ → ℕ → Type 0
+Raised u src places ks m = (k : ℕ) → k < m → getD ks k 0 ≡ max u (getD src (getD places k 0) 0)
+
+-- j is one of the first m places.
+pub record Stands (places : List ℕ) (m j : ℕ) : Type 0 where
+  pub k : ℕ
+  pub within : k < m
+  pub here : getD places k 0 ≡ j
+
+-- Of the corners with the first i points, those within the limit are the first m of kx, ky, kz. Their points stand at
+-- the first m places, which ascend.
+pub record Collected (xs ys zs u limit : List ℕ) (i : ℕ) (kx ky kz places : List ℕ) (m : ℕ) : Type 0 where
+  pub few : m ≤ i
+  pub all : points (take m kx) (take m ky) (take m kz) ≡ kept (λ t. dominates t limit) (take i (corners u xs ys zs))
+  pub x : Raised (getD u 0 0) xs places kx m
+  pub y : Raised (getD u 1 0) ys places ky m
+  pub z : Raised (getD u 2 0) zs places kz m
+  pub inside : (k : ℕ) → k < m → getD places k 0 < i
+  pub rising : (k : ℕ) → suc k < m → getD places k 0 < getD places (suc k) 0
+  pub every : (j : ℕ) → j < i → dominates (getD (corners u xs ys zs) j []) limit ≡ true → Stands places m j
+
+-- Putting counts at places.
+pub record Spreading (counts places out : List ℕ) : Type 0 where
+  pub many : length counts ≡ length places
+  pub inside : (k : ℕ) → k < length places → getD places k 0 < length out
+
+unfoldable pub spread : List ℕ → List ℕ → List ℕ → List ℕ
+spread out [] counts = out
+spread out (k ∷ places) [] = out
+spread out (k ∷ places) (n ∷ counts) = spread (set out k n) places counts

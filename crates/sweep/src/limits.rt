@@ -1,0 +1,146 @@
+// Which corners an update counts. A corner may be left out where two that stay are at most it on all axes, and on real
+// archives nearly all may: those beyond a limit on some axis.
+use crate::number::larger;
+use hypervolume::Point;
+ghost use mathlib.Core.Path.{_≡_};
+ghost use mathlib.Core.List.{[], _∷_, _++_};
+ghost use lib.Dec.{leb};
+ghost use lib.ListN.{length, drop, replicate};
+ghost use Rattle.hypervolume.specs.Cells.{both, dominates};
+ghost use Rattle.sweep.specs.Points.{points};
+ghost use Rattle.sweep.specs.Limits.{offer, twoWith, Alike, Limits, Collecting, Collected, Spreading, spread};
+
+// The two least of the numbers passed.
+pub struct Two {
+    pub least: u64,
+    pub second: u64,
+}
+
+impl Two {
+    // The two least with one more number.
+    pub fn with(self, n: u64) -> Two
+        ensures { λ r. ⌜ r ≡ twoWith self n ⌝ }
+    {
+        if self.second <= n {
+            self
+        } else if self.least <= n {
+            Two {
+                least: self.least,
+                second: n,
+            }
+        } else {
+            Two {
+                least: n,
+                second: self.least,
+            }
+        }
+    }
+}
+
+// Both of two tests, without a branch.
+fn both(a: bool, b: bool) -> bool
+    ensures { λ r. ⌜ r ≡ both a b ⌝ }
+{
+    if a { b } else { false }
+}
+
+// A coordinate as an offer for the limit on its axis: only a point that is at most u on the two other axes makes one.
+// 1,048,576 limits nothing.
+fn offered(n: u64, a: u64, b: u64, ua: u64, ub: u64) -> u64
+    ensures { λ r. ⌜ r ≡ offer (both (leb a ua) (leb b ub)) n ⌝ }
+{
+    if both(a <= ua, b <= ub) { n } else { 1048576 }
+}
+
+// The limit on each axis: the second least coordinate of the corners that equal u on the two other axes.
+pub fn limits(xs: &[u64], ys: &[u64], zs: &[u64], u: Point) -> [u64; 3]
+    requires { ⌜ Alike (now xs) (now ys) (now zs) ⌝ }
+    ensures { λ r. ⌜ Limits (points (now (xs .entry)) (now (ys .entry)) (now (zs .entry))) (u .at) r ⌝ }
+{
+    let ux = u.at[0] as u64;
+    let uy = u.at[1] as u64;
+    let uz = u.at[2] as u64;
+    let mut on_x = Two {
+        least: 1048576,
+        second: 1048576,
+    };
+    let mut on_y = on_x;
+    let mut on_z = on_x;
+    let mut i: usize = 0;
+    while i < xs.len() {
+        let x = xs[i];
+        let y = ys[i];
+        let z = zs[i];
+        on_x = on_x.with(offered(x, y, z, uy, uz));
+        on_y = on_y.with(offered(y, x, z, ux, uz));
+        on_z = on_z.with(offered(z, x, y, ux, uy));
+        i = i + 1;
+    }
+    [
+        larger(ux, on_x.second),
+        larger(uy, on_y.second),
+        larger(uz, on_z.second),
+    ]
+}
+
+// Whether a point is at most the limit on every axis.
+fn within(x: u64, y: u64, z: u64, limit: [u64; 3]) -> bool
+    ensures { λ r. ⌜ r ≡ dominates (x ∷ y ∷ z ∷ []) limit ⌝ }
+{
+    both(x <= limit[0], both(y <= limit[1], z <= limit[2]))
+}
+
+// The corners within the limit, in their order: how many, their coordinates, and in `places` where their points stand.
+// Every count in `out` becomes 0, which is what the corners left out have.
+pub fn collect(
+    xs: &[u64],
+    ys: &[u64],
+    zs: &[u64],
+    u: Point,
+    limit: [u64; 3],
+    kx: &mut [u64],
+    ky: &mut [u64],
+    kz: &mut [u64],
+    places: &mut [usize],
+    out: &mut [u64],
+) -> usize
+    requires { ⌜ Collecting (now xs) (now ys) (now zs) (u .at) limit (now kx) (now ky) (now kz) (now places) (now out) ⌝ }
+    ensures collected { λ r. ⌜ Collected (now (xs .entry)) (now (ys .entry)) (now (zs .entry)) (u .at) limit (length (now (xs .entry))) (now (kx .exit)) (now (ky .exit)) (now (kz .exit)) (now (places .exit)) r ⌝ }
+    ensures cleared { λ _. ⌜ now (out .exit) ≡ replicate (length (now (xs .entry))) 0 ++ drop (length (now (xs .entry))) (now (out .entry)) ⌝ }
+{
+    let ux = u.at[0] as u64;
+    let uy = u.at[1] as u64;
+    let uz = u.at[2] as u64;
+    let mut m: usize = 0;
+    let mut i: usize = 0;
+    while i < xs.len() {
+        let x = xs[i];
+        let y = ys[i];
+        let z = zs[i];
+        out[i] = 0;
+        if within(x, y, z, limit) {
+            kx[m] = larger(ux, x);
+            ky[m] = larger(uy, y);
+            kz[m] = larger(uz, z);
+            places[m] = i;
+            m = m + 1;
+            i = i + 1;
+        } else {
+            i = i + 1;
+        }
+    }
+    m
+}
+
+// Puts each count where its point stands.
+pub fn spread(counts: &[u64], places: &[usize], out: &mut [u64])
+    requires { ⌜ Spreading (now counts) (now places) (now out) ⌝ }
+    ensures { λ _. ⌜ now (out .exit) ≡ spread (now (out .entry)) (now (places .entry)) (now (counts .entry)) ⌝ }
+{
+    let mut k: usize = 0;
+    while k < places.len() {
+        let place = places[k];
+        out[place] = counts[k];
+        k = k + 1;
+    }
+}
