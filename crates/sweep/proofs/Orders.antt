@@ -1,11 +1,14 @@
 -- The order of the line on x, and where the next point belongs in it.
-use Prim.Native.Nat.{ℕ, zero, suc, _+_, _-_, _/_, _≤_, _<_}
+use Prim.Native.Nat.{ℕ, zero, suc, _+_, _-_, _*_, _/_, _^_, _≤_, _<_}
 use mathlib.Core.Path.{_≡_}
+use mathlib.Core.Bool.{Bool, true, false}
 use mathlib.Core.List.{List, [], _∷_, _++_}
-use native.Mathlib.Decide.{decLe}
-use native.Mathlib.Nat.{le-trans}
+use native.Mathlib.Nat.{le-trans, add-zero, mul-one, mul-zero}
 use native.Mathlib.Omega.{arith}
+use lib.Dec.{leb}
 use lib.ListN.{length, getD}
+use Rattle.hypervolume.specs.Cells.{holds}
+use Rattle.hypervolume.proofs.Tests.{Compared, below, above, compared}
 use Rattle.sweep.specs.Line.{xOf, Rising, Ranked}
 
 -- What a line begins with at the least.
@@ -60,57 +63,78 @@ unfolding Rising
 rising-same x [] v w t e h = rw e h
 rising-same x (u ∷ s) v w t e h = (h .0, rising-same (xOf u) s v w t e (h .1))
 
--- The search for the place of a point at x: it lies from low up to high.
-pub record Between (line : List ℕ) (x low high : ℕ) : Type 0 where
+-- The search for the place of a point at x: it lies among `size` entries from `low` on, or right behind them.
+pub record Between (line : List ℕ) (x low size : ℕ) : Type 0 where
   pub rising : Rising 0 line
-  pub ordered : low ≤ high
-  pub within : high ≤ length line
+  pub within : low + size ≤ length line
   pub before : (k : ℕ) → k < low → xOf (getD line k 0) ≤ x
-  pub after : (k : ℕ) → high ≤ k → k < length line → x < xOf (getD line k 0)
+  pub after : (k : ℕ) → low + size ≤ k → k < length line → x < xOf (getD line k 0)
 
 pub between-all : (line : List ℕ) (x : ℕ) → Rising 0 line → Between line x 0 (length line)
 between-all line x h =
     record {
       rising = h;
-      ordered = omega arith;
       within = omega arith;
       before = λ k l. absurd (let no′ : ⊥ = omega arith in no′);
       after = λ k l m. absurd (let no′ : ⊥ = omega arith in no′);
     }
 
-module _ {line : List ℕ} {x low high : ℕ} (h : Between line x low high) (l : low < high) {middle : ℕ} (e : middle ≡ low + (high - low) / 2) where
-  pub between-inside : middle < high
-  between-inside = omega arith
-
-  pub between-above : {v : ℕ} → v ≡ xOf (getD line middle 0) → v ≤ x → Between line x (middle + 1) high
-  between-above {v} f m =
+module _ {line : List ℕ} {x low size : ℕ} (h : Between line x low size) (l : 0 < size) {half : ℕ} (e : half ≡ (size + 1) / 2) where
+  -- the entry in the middle is at most x, or it lies beyond
+  upper : xOf (getD line (low + half - 1) 0) ≤ x → Between line x (low + half) (size - half)
+  upper m =
       record {
         rising = h .rising;
-        ordered = omega arith;
-        within = h .within;
+        within = omega (arith, h .within);
         before = λ k n.
-            let up : xOf (getD line k 0) ≤ xOf (getD line middle 0) =
-            rising-pair 0 line (h .rising) k middle (omega arith) (omega (arith, h .within)) in
+            let up : xOf (getD line k 0) ≤ xOf (getD line (low + half - 1) 0) =
+            rising-pair 0 line (h .rising) k (low + half - 1) (omega arith) (omega (arith, h .within)) in
             omega arith;
-        after = h .after;
+        after = λ k n o. h .after k (omega arith) o;
       }
 
-  pub between-below : {v : ℕ} → v ≡ xOf (getD line middle 0) → x < v → Between line x low middle
-  between-below {v} f m =
+  lower : x < xOf (getD line (low + half - 1) 0) → Between line x low (size - half)
+  lower m =
       record {
         rising = h .rising;
-        ordered = omega arith;
         within = omega (arith, h .within);
         before = h .before;
         after = λ k n o.
-            let up : xOf (getD line middle 0) ≤ xOf (getD line k 0) = rising-pair 0 line (h .rising) middle k n o in
+            let up : xOf (getD line (low + half - 1) 0) ≤ xOf (getD line k 0) =
+            rising-pair 0 line (h .rising) (low + half - 1) k (omega arith) o in
             omega arith;
       }
 
-pub between-none : {line : List ℕ} {x low high : ℕ} → Between line x low high → high ≤ low → Ranked line x low
-between-none {line} {x} {low} {high} h l =
+  pub between-half : {bit : ℕ} → bit ≡ holds (leb (xOf (getD line (low + half - 1) 0)) x) → Between line x (low + half * bit) (size - half)
+  unfolding holds
+  between-half {bit} f =
+      rw f (go (leb (xOf (getD line (low + half - 1) 0)) x) (compared (xOf (getD line (low + half - 1) 0)) x))
+    where
+      go : (b : Bool) → Compared (xOf (getD line (low + half - 1) 0)) x b → Between line x (low + half * holds b) (size - half)
+      go true (below m) = rw (mul-one half) (upper m)
+      go false (above m) = rw (mul-zero half, add-zero low) (lower m)
+
+  pub between-place : {bit : ℕ} → bit ≡ holds (leb (xOf (getD line (low + half - 1) 0)) x) → half * bit ≤ half
+  unfolding holds
+  between-place {bit} f = rw f (go (leb (xOf (getD line (low + half - 1) 0)) x))
+    where
+      go : (b : Bool) → half * holds b ≤ half
+      go true = rw (mul-one half) (omega arith)
+      go false = rw (mul-zero half) (omega arith)
+
+pub between-none : {line : List ℕ} {x low size : ℕ} → Between line x low size → size ≤ 0 → Ranked line x low
+between-none {line} {x} {low} {size} h l =
     record {
-      within = omega (arith, h .within, h .ordered);
+      within = omega (arith, h .within);
       before = h .before;
       after = λ k m n. h .after k (omega arith) n;
     }
+
+-- The test by arithmetic: the difference, raised by 2^32, reaches 2^32 where the entry is at most x.
+pub reaches-bit : (w x : ℕ) → x ≤ 1048576 → w < 2 ^ 64 → (x + 4294967296 - w / 4294967296) / 4294967296 ≡ holds (leb (xOf w) x)
+unfolding holds
+reaches-bit w x l m = go (leb (xOf w) x) (compared (xOf w) x)
+  where
+    go : (b : Bool) → Compared (xOf w) x b → (x + 4294967296 - w / 4294967296) / 4294967296 ≡ holds b
+    go true (below n) = omega arith
+    go false (above n) = omega arith

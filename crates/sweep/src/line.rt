@@ -5,7 +5,9 @@
 use crate::column::Column;
 ghost use mathlib.Core.Path.{_≡_};
 ghost use Prim.Native.Nat.{ℕ, _+_, _≤_, _<_};
+ghost use lib.Dec.{leb};
 ghost use lib.ListN.{length, take};
+ghost use Rattle.hypervolume.specs.Cells.{holds};
 ghost use Rattle.sweep.specs.Line.{entryOf, flagged, xOf, yOf, indexOf, flagOf, Rising, Ranked, insertAt};
 ghost use Rattle.sweep.specs.Strips.{Standing};
 ghost use Rattle.sweep.specs.Entries.{pickEntry, Thinning, Walked, Closed, Entering, Entered};
@@ -55,20 +57,25 @@ fn flag_where(test: bool, entry: u64) -> u64
     if test { set_flag(entry) } else { entry }
 }
 
-// Where a point at x belongs: behind the entries that are at most x.
+// 1 where the entry is at most x, else 0. By arithmetic, since no branch could tell beforehand.
+fn reaches(entry: u64, x: u64) -> usize
+    requires { ⌜ x ≤ 1048576 ⌝ }
+    ensures { λ r. ⌜ r ≡ holds (leb (xOf entry) x) ⌝ }
+{
+    ((x + 4294967296 - entry / 4294967296) / 4294967296) as usize
+}
+
+// Where a point at x belongs: behind the entries that are at most x. The search halves what is left, whatever it finds.
 pub fn rank(line: &[u64], x: u64) -> usize
-    requires { ⌜ Rising 0 (now line) ⌝ }
+    requires { ⌜ Rising 0 (now line) × (x ≤ 1048576) ⌝ }
     ensures { λ r. ⌜ Ranked (now (line .entry)) x r ⌝ }
 {
     let mut low = 0;
-    let mut high = line.len();
-    while low < high {
-        let middle = low + (high - low) / 2;
-        if x_of(line[middle]) <= x {
-            low = middle + 1;
-        } else {
-            high = middle;
-        }
+    let mut size = line.len();
+    while 0 < size {
+        let half = (size + 1) / 2;
+        low += half * reaches(line[low + half - 1], x);
+        size -= half;
     }
     low
 }

@@ -75,7 +75,7 @@ ranked c = c .before .before
 rank-requires : tie.Need-rank-requires Inv-loop μ-loop
 rank-requires c κs =
     let here = turn (c .before) in
-    progress-rising (here .before .loop .inv) (here .loop-test .taken)
+    (progress-rising (here .before .loop .inv) (here .loop-test .taken), here .before .loop .inv .ready .xs-small (here .before .loop .i))
 
 array-share-prefix-line-2 : tie.Need-array-share-prefix-line-2 Inv-loop μ-loop
 array-share-prefix-line-2 c =
