@@ -6,17 +6,17 @@ use mathlib.Core.List.{List, [], _∷_, _++_}
 use native.Mathlib.Nat.{le-trans}
 use native.Mathlib.Numerals.{add-one}
 use native.Mathlib.Omega.{arith}
-use lib.Dec.{leb}
+use lib.Dec.{leb, eqb}
 use lib.ListN.{length, take, getD, set}
 use lib.Seq.{take-suc, take-all}
-use borrow.Author.Tests.{leb-true, le-leb}
+use borrow.Author.Tests.{leb-true, le-leb, eq-eqb, ne-eqb}
 use Rattle.hypervolume.specs.Cells.{both, holds, dominates}
 use Rattle.hypervolume.specs.Counts.{cover}
-use Rattle.hypervolume.proofs.Tests.{Compared, below, above, compared, both-comm, both-true, both-intro}
+use Rattle.hypervolume.proofs.Tests.{Compared, below, above, compared, holds-le-one, both-true, both-intro}
 use Rattle.hypervolume.proofs.Dominance.{cover-append}
 use Rattle.sweep.specs.declared.limits.Two.{Two}
-use Rattle.sweep.specs.Points.{points}
-use Rattle.sweep.specs.Limits.{pickTwo, twoWith, offer, Alike, Limits}
+use Rattle.sweep.specs.Points.{points, Small}
+use Rattle.sweep.specs.Limits.{pickTwo, twoWith, axesWithin, offer, Alike, Limits}
 use Rattle.sweep.proofs.Coordinates.{points-length, points-at}
 use Rattle.sweep.proofs.Sweeps.{three}
 
@@ -90,16 +90,9 @@ unfolding offer
 offer-made true n v e l = (refl, e)
 offer-made false n v e l = absurd (let no′ : ⊥ = omega arith in no′)
 
-pub dominates-three : (x y z i j k : ℕ) → x ≤ i → y ≤ j → z ≤ k → dominates (x ∷ y ∷ z ∷ []) (i ∷ j ∷ k ∷ []) ≡ true
+dominates-three : (x y z i j k : ℕ) → x ≤ i → y ≤ j → z ≤ k → dominates (x ∷ y ∷ z ∷ []) (i ∷ j ∷ k ∷ []) ≡ true
 unfolding dominates both
 dominates-three x y z i j k p q s = rw (le-leb x i p, le-leb y j q, le-leb z k s)
-
--- the same as one test after the other
-pub dominates-limit : (x y z : ℕ) (limit : List ℕ) → length limit ≡ 3 → both (leb x (getD limit 0 0)) (both (leb y (getD limit 1 0)) (leb z (getD limit 2 0))) ≡ dominates (x ∷ y ∷ z ∷ []) limit
-unfolding dominates both
-dominates-limit x y z limit e =
-    rw (← (three limit e))
-    (ap (λ t. both (leb x (getD limit 0 0)) (both (leb y (getD limit 1 0)) t)) (both-comm true (leb z (getD limit 2 0))))
 
 module _ (x y z ux uy uz : ℕ) {v : ℕ} where
   offer-x : v ≡ offer (both (leb y uy) (leb z uz)) x → v < 1048576 → dominates (x ∷ y ∷ z ∷ []) (v ∷ uy ∷ uz ∷ []) ≡ true
@@ -120,75 +113,152 @@ module _ (x y z ux uy uz : ℕ) {v : ℕ} where
       let low = both-true (leb x ux) (leb y uy) (made .0) in
       dominates-three x y z ux uy v (leb-true x ux (low .0)) (leb-true y uy (low .1)) (omega (arith, made .1))
 
+-- The limits that they make.
+least-limits : {passed : List (List ℕ)} (ux uy uz : ℕ) {on-x on-y on-z : Two} {nx ny nz : ℕ} → Least passed (ux ∷ uy ∷ uz ∷ []) 0 on-x → Least passed (ux ∷ uy ∷ uz ∷ []) 1 on-y → Least passed (ux ∷ uy ∷ uz ∷ []) 2 on-z → nx ≡ max ux (on-x .second) → ny ≡ max uy (on-y .second) → nz ≡ max uz (on-z .second) → Limits passed (ux ∷ uy ∷ uz ∷ []) (nx ∷ ny ∷ nz ∷ [])
+least-limits {passed} ux uy uz {on-x} {on-y} {on-z} {nx} {ny} {nz} hx hy hz ex ey ez =
+    record {
+      above = dominates-three ux uy uz nx ny nz (omega arith) (omega arith) (omega arith);
+      twice = twice;
+    }
+  where
+    on : (a u n : ℕ) (two : Two) → Least passed (ux ∷ uy ∷ uz ∷ []) a two → n ≡ max u (two .second) → n < 1048576 → 2 ≤ cover passed (set (ux ∷ uy ∷ uz ∷ []) a n)
+    on a u n two h e l =
+        let there : 2 ≤ cover passed (set (ux ∷ uy ∷ uz ∷ []) a (two .second)) = h .more (omega arith) in
+        omega (arith, raised-cover passed (ux ∷ uy ∷ uz ∷ []) a (two .second) n (omega arith))
+
+    twice : (a : ℕ) → a < 3 → getD (nx ∷ ny ∷ nz ∷ []) a 0 < 1048576 → 2 ≤ cover passed (set (ux ∷ uy ∷ uz ∷ []) a (getD (nx ∷ ny ∷ nz ∷ []) a 0))
+    twice zero p q = on 0 ux nx on-x hx ex q
+    twice (suc zero) p q = on 1 uy ny on-y hy ey q
+    twice (suc (suc zero)) p q = on 2 uz nz on-z hz ez q
+    twice (suc (suc (suc a))) p q = absurd (let no′ : ⊥ = omega arith in no′)
+
+-- A point more takes nothing away.
+later : (passed : List (List ℕ)) (p c : List ℕ) → cover passed c ≤ cover (passed ++ (p ∷ [])) c
+later passed p c = omega (arith, cover-append passed (p ∷ []) c)
+
+least-later : {passed : List (List ℕ)} {u : List ℕ} {a : ℕ} {two : Two} (p : List ℕ) → Least passed u a two → Least (passed ++ (p ∷ [])) u a two
+least-later {passed} {u} {a} {two} p h =
+    record {
+      one = λ l. omega (arith, h .one l, later passed p (set u a (two .least)));
+      more = λ l. omega (arith, h .more l, later passed p (set u a (two .second)));
+    }
+
+limits-later : {passed : List (List ℕ)} {u limit : List ℕ} (p : List ℕ) → Limits passed u limit → Limits (passed ++ (p ∷ [])) u limit
+limits-later {passed} {u} {limit} p h =
+    record {
+      above = h .above;
+      twice = λ a m l. omega (arith, h .twice a m l, later passed p (set u a (getD limit a 0)));
+    }
+
 -- The pass over the points.
-pub record Bounding (xs ys zs : List ℕ) (ux uy uz : ℕ) (on-x on-y on-z : Two) (i : ℕ) : Type 0 where
+pub record Bounding (xs ys zs : List ℕ) (ux uy uz : ℕ) (on-x on-y on-z : Two) (limit : List ℕ) (i : ℕ) : Type 0 where
   pub alike : Alike xs ys zs
   pub within : i ≤ length xs
   pub x : Least (take i (points xs ys zs)) (ux ∷ uy ∷ uz ∷ []) 0 on-x
   pub y : Least (take i (points xs ys zs)) (ux ∷ uy ∷ uz ∷ []) 1 on-y
   pub z : Least (take i (points xs ys zs)) (ux ∷ uy ∷ uz ∷ []) 2 on-z
+  pub limits : Limits (take i (points xs ys zs)) (ux ∷ uy ∷ uz ∷ []) limit
 
-pub bounding-none : {xs ys zs : List ℕ} (ux uy uz : ℕ) → Alike xs ys zs → Bounding xs ys zs ux uy uz (record { least = 1048576; second = 1048576 }) (record { least = 1048576; second = 1048576 }) (record { least = 1048576; second = 1048576 }) 0
-bounding-none ux uy uz a =
+pub bounding-none : {xs ys zs : List ℕ} (u : List ℕ) → Alike xs ys zs → Small u → Bounding xs ys zs (getD u 0 0) (getD u 1 0) (getD u 2 0) (record { least = 1048576; second = 1048576 }) (record { least = 1048576; second = 1048576 }) (record { least = 1048576; second = 1048576 }) (1048576 ∷ 1048576 ∷ 1048576 ∷ []) 0
+bounding-none u a s =
     record {
       alike = a;
       within = omega arith;
-      x = least-none _ _ 0;
-      y = least-none _ _ 1;
-      z = least-none _ _ 2;
+      x = none 0;
+      y = none 1;
+      z = none 2;
+      limits = least-limits (getD u 0 0) (getD u 1 0) (getD u 2 0) (none 0) (none 1) (none 2) (omega (arith, s 0)) (omega (arith, s 1)) (omega (arith, s 2));
     }
+  where
+    none : (axis : ℕ) → Least [] (getD u 0 0 ∷ getD u 1 0 ∷ getD u 2 0 ∷ []) axis (record { least = 1048576; second = 1048576 })
+    none axis = least-none [] (getD u 0 0 ∷ getD u 1 0 ∷ getD u 2 0 ∷ []) axis
 
-module _ {xs ys zs : List ℕ} {ux uy uz : ℕ} {on-x on-y on-z : Two} {i : ℕ} (h : Bounding xs ys zs ux uy uz on-x on-y on-z i) where
-  pub bounding-more : {nx ny nz : ℕ} {on-x′ on-y′ on-z′ : Two} → i < length xs → nx ≡ offer (both (leb (getD ys i 0) uy) (leb (getD zs i 0) uz)) (getD xs i 0) → on-x′ ≡ twoWith on-x nx → ny ≡ offer (both (leb (getD xs i 0) ux) (leb (getD zs i 0) uz)) (getD ys i 0) → on-y′ ≡ twoWith on-y ny → nz ≡ offer (both (leb (getD xs i 0) ux) (leb (getD ys i 0) uy)) (getD zs i 0) → on-z′ ≡ twoWith on-z nz → Bounding xs ys zs ux uy uz on-x′ on-y′ on-z′ (i + 1)
-  bounding-more {nx} {ny} {nz} l ox ex oy ey oz ez =
+module _ {xs ys zs : List ℕ} {ux uy uz : ℕ} {on-x on-y on-z : Two} {limit : List ℕ} {i : ℕ} (h : Bounding xs ys zs ux uy uz on-x on-y on-z limit i) where
+  abbrev px : ℕ
+  px = getD xs i 0
+
+  abbrev py : ℕ
+  py = getD ys i 0
+
+  abbrev pz : ℕ
+  pz = getD zs i 0
+
+  abbrev p : List ℕ
+  p = px ∷ py ∷ pz ∷ []
+
+  many : length (points xs ys zs) ≡ length xs
+  many = points-length xs ys zs (h .alike .ys-many) (h .alike .zs-many)
+
+  next : i < length xs → take (i + 1) (points xs ys zs) ≡ take i (points xs ys zs) ++ (p ∷ [])
+  next l =
+      rw (add-one i, take-suc (points xs ys zs) i [] (omega (arith, many)), points-at xs ys zs i (h .alike .ys-many) (h .alike .zs-many) l)
+
+  -- A point may be passed over.
+  pub bounding-skip : i < length xs → Bounding xs ys zs ux uy uz on-x on-y on-z limit (i + 1)
+  bounding-skip l =
       record {
         alike = h .alike;
         within = omega arith;
-        x = rw (next, ex) (least-more p nx (h .x) (offer-x px py pz ux uy uz ox));
-        y = rw (next, ey) (least-more p ny (h .y) (offer-y px py pz ux uy uz oy));
-        z = rw (next, ez) (least-more p nz (h .z) (offer-z px py pz ux uy uz oz));
+        x = rw (next l) (least-later p (h .x));
+        y = rw (next l) (least-later p (h .y));
+        z = rw (next l) (least-later p (h .z));
+        limits = rw (next l) (limits-later p (h .limits));
       }
-    where
-      px : ℕ
-      px = getD xs i 0
 
-      py : ℕ
-      py = getD ys i 0
-
-      pz : ℕ
-      pz = getD zs i 0
-
-      p : List ℕ
-      p = px ∷ py ∷ pz ∷ []
-
-      next : take (i + 1) (points xs ys zs) ≡ take i (points xs ys zs) ++ (p ∷ [])
-      next =
-          let many : length (points xs ys zs) ≡ length xs = points-length xs ys zs (h .alike .ys-many) (h .alike .zs-many) in
-          rw (add-one i, take-suc (points xs ys zs) i [] (omega arith), points-at xs ys zs i (h .alike .ys-many) (h .alike .zs-many) l)
-
-  bounds : {nx ny nz : ℕ} → length xs ≤ i → nx ≡ max ux (on-x .second) → ny ≡ max uy (on-y .second) → nz ≡ max uz (on-z .second) → Limits (points xs ys zs) (ux ∷ uy ∷ uz ∷ []) (nx ∷ ny ∷ nz ∷ [])
-  bounds {nx} {ny} {nz} l ex ey ez =
+  pub bounding-more : {ox oy oz nx ny nz : ℕ} {on-x′ on-y′ on-z′ : Two} → i < length xs → ox ≡ offer (both (leb py uy) (leb pz uz)) px → on-x′ ≡ twoWith on-x ox → oy ≡ offer (both (leb px ux) (leb pz uz)) py → on-y′ ≡ twoWith on-y oy → oz ≡ offer (both (leb px ux) (leb py uy)) pz → on-z′ ≡ twoWith on-z oz → nx ≡ max ux (on-x′ .second) → ny ≡ max uy (on-y′ .second) → nz ≡ max uz (on-z′ .second) → Bounding xs ys zs ux uy uz on-x′ on-y′ on-z′ (nx ∷ ny ∷ nz ∷ []) (i + 1)
+  bounding-more {ox} {oy} {oz} {on-x′ = on-x′} {on-y′} {on-z′} l fx ex fy ey fz ez gx gy gz =
       record {
-        above = dominates-three ux uy uz nx ny nz (omega arith) (omega arith) (omega arith);
-        twice = twice;
+        alike = h .alike;
+        within = omega arith;
+        x = x′;
+        y = y′;
+        z = z′;
+        limits = least-limits ux uy uz x′ y′ z′ gx gy gz;
       }
     where
-      whole : take i (points xs ys zs) ≡ points xs ys zs
-      whole =
-          let many : length (points xs ys zs) ≡ length xs = points-length xs ys zs (h .alike .ys-many) (h .alike .zs-many) in
-          take-all i (points xs ys zs) (omega arith)
+      x′ : Least (take (i + 1) (points xs ys zs)) (ux ∷ uy ∷ uz ∷ []) 0 on-x′
+      x′ = rw (next l, ex) (least-more p ox (h .x) (offer-x px py pz ux uy uz fx))
 
-      on : (a : ℕ) (two : Two) (u n : ℕ) → n ≡ max u (two .second) → Least (take i (points xs ys zs)) (ux ∷ uy ∷ uz ∷ []) a two → n < 1048576 → 2 ≤ cover (points xs ys zs) (set (ux ∷ uy ∷ uz ∷ []) a n)
-      on a two u n e least m =
-          let two-there : 2 ≤ cover (points xs ys zs) (set (ux ∷ uy ∷ uz ∷ []) a (two .second)) =
-          rw whole at (least .more (omega arith)) in
-          omega (arith, raised-cover (points xs ys zs) (ux ∷ uy ∷ uz ∷ []) a (two .second) n (omega arith))
+      y′ : Least (take (i + 1) (points xs ys zs)) (ux ∷ uy ∷ uz ∷ []) 1 on-y′
+      y′ = rw (next l, ey) (least-more p oy (h .y) (offer-y px py pz ux uy uz fy))
 
-      twice : (a : ℕ) → a < 3 → getD (nx ∷ ny ∷ nz ∷ []) a 0 < 1048576 → 2 ≤ cover (points xs ys zs) (set (ux ∷ uy ∷ uz ∷ []) a (getD (nx ∷ ny ∷ nz ∷ []) a 0))
-      twice zero p q = on 0 on-x ux nx ex (h .x) q
-      twice (suc zero) p q = on 1 on-y uy ny ey (h .y) q
-      twice (suc (suc zero)) p q = on 2 on-z uz nz ez (h .z) q
-      twice (suc (suc (suc a))) p q = absurd (let no′ : ⊥ = omega arith in no′)
+      z′ : Least (take (i + 1) (points xs ys zs)) (ux ∷ uy ∷ uz ∷ []) 2 on-z′
+      z′ = rw (next l, ez) (least-more p oz (h .z) (offer-z px py pz ux uy uz fz))
 
-pub bounding-end : {xs ys zs : List ℕ} {on-x on-y on-z : Two} {i nx ny nz : ℕ} (u : List ℕ) → length u ≡ 3 → Bounding xs ys zs (getD u 0 0) (getD u 1 0) (getD u 2 0) on-x on-y on-z i → length xs ≤ i → nx ≡ max (getD u 0 0) (on-x .second) → ny ≡ max (getD u 1 0) (on-y .second) → nz ≡ max (getD u 2 0) (on-z .second) → Limits (points xs ys zs) u (nx ∷ ny ∷ nz ∷ [])
-bounding-end u e h l ex ey ez = rw (three u e) at (bounds h l ex ey ez)
+  whole : length xs ≤ i → take i (points xs ys zs) ≡ points xs ys zs
+  whole l = take-all i (points xs ys zs) (omega (arith, many))
+
+pub bounding-end : {xs ys zs : List ℕ} {on-x on-y on-z : Two} {limit : List ℕ} {i : ℕ} (u : List ℕ) → length u ≡ 3 → Bounding xs ys zs (getD u 0 0) (getD u 1 0) (getD u 2 0) on-x on-y on-z limit i → length xs ≤ i → Limits (points xs ys zs) u limit
+bounding-end u e h l = rw (whole h l, three u e) at (h .limits)
+
+-- Adding up the tests of the three axes.
+pub test-few : (t : Bool) {n : ℕ} → n ≡ holds t → n ≤ 1
+test-few t e = omega (arith, holds-le-one t)
+
+pub axes-few : (x y z : ℕ) (p : List ℕ) {n : ℕ} → n ≡ axesWithin x y z p → n ≤ 3
+unfolding axesWithin
+axes-few x y z p e =
+    omega (arith, holds-le-one (leb x (getD p 0 0)), holds-le-one (leb y (getD p 1 0)), holds-le-one (leb z (getD p 2 0)))
+
+all-three : (a b c : Bool) → eqb (holds a + holds b + holds c) 3 ≡ both a (both b (both c true))
+unfolding holds both
+all-three true true true = refl
+all-three true true false = refl
+all-three true false true = refl
+all-three true false false = refl
+all-three false true true = refl
+all-three false true false = refl
+all-three false false true = refl
+all-three false false false = refl
+
+axes-dominates : (x y z : ℕ) (p : List ℕ) → length p ≡ 3 → eqb (axesWithin x y z p) 3 ≡ dominates (x ∷ y ∷ z ∷ []) p
+unfolding axesWithin dominates
+axes-dominates x y z p e =
+    all-three (leb x (getD p 0 0)) (leb y (getD p 1 0)) (leb z (getD p 2 0)) ∙ ap (dominates (x ∷ y ∷ z ∷ [])) (three p e)
+
+module _ (x y z : ℕ) (p : List ℕ) (e : length p ≡ 3) {n : ℕ} (f : n ≡ axesWithin x y z p) where
+  pub axes-all : n ≡ 3 → dominates (x ∷ y ∷ z ∷ []) p ≡ true
+  axes-all g = sym (axes-dominates x y z p e) ∙ eq-eqb (axesWithin x y z p) 3 (sym f ∙ g)
+
+  pub axes-not : (n ≡ 3 → ⊥) → dominates (x ∷ y ∷ z ∷ []) p ≡ false
+  axes-not g = sym (axes-dominates x y z p e) ∙ ne-eqb (axesWithin x y z p) 3 (λ q. g (f ∙ q))

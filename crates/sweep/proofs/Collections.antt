@@ -1,18 +1,14 @@
 -- Collecting the corners within a limit.
-use Prim.Native.Nat.{ℕ, zero, suc, _+_, _-_, _≤_, _<_, max}
+use Prim.Native.Nat.{ℕ, zero, suc, _+_, _≤_, _<_, max}
 use mathlib.Core.Path.{_≡_, refl, sym, ap, _∙_}
-use mathlib.Core.Bool.{Bool, true, false, not}
+use mathlib.Core.Bool.{Bool, true, false}
 use mathlib.Core.List.{List, [], _∷_, _++_, map, append-nil}
 use native.Mathlib.Decide.{decLe}
-use native.Mathlib.Nat.{add-zero}
 use native.Mathlib.Numerals.{add-one}
 use native.Mathlib.Omega.{arith}
-use lib.ListN.{length, take, drop, getD, set, replicate, length-set, length-map, length-replicate, List·getD-map}
-use lib.Seq.{take-suc, take-suc-set, take-all, length-take-le, drop-cons, set-at, getD-set-same, getD-set-other}
-use Rattle.hypervolume.specs.Cells.{both, holds, dominates, join}
-use Rattle.hypervolume.specs.Counts.{cover}
-use Rattle.hypervolume.proofs.Dominance.{dominates-join, cover-append}
-use Rattle.hypervolume.proofs.Counting.{SameCover}
+use lib.ListN.{length, take, drop, getD, set, replicate, length-set, length-map, length-replicate}
+use lib.Seq.{take-suc, take-suc-set, length-take-le, drop-cons, set-at, getD-set-same, getD-set-other}
+use Rattle.hypervolume.specs.Cells.{dominates, join}
 use Rattle.sweep.specs.Points.{points}
 use Rattle.sweep.specs.Limits.{Alike, pick, kept, corners, Collecting, Raised, Stands, Collected}
 use Rattle.sweep.proofs.Coordinates.{points-length, points-at}
@@ -132,12 +128,12 @@ module _ {xs ys zs limit kx₀ ky₀ kz₀ places₀ out₀ : List ℕ} {ux uy u
   tested : dominates (join u p) limit ≡ dominates p limit
   tested = corner-within u p limit (h .asked .above)
 
-  kept-next : (t : Bool) → t ≡ dominates p limit → kept (λ t. dominates t limit) (take (i + 1) (corners u xs ys zs)) ≡ kept (λ t. dominates t limit) (take i (corners u xs ys zs)) ++ pick t (join u p) []
+  kept-next : (t : Bool) → dominates p limit ≡ t → kept (λ t. dominates t limit) (take (i + 1) (corners u xs ys zs)) ≡ kept (λ t. dominates t limit) (take i (corners u xs ys zs)) ++ pick t (join u p) []
   kept-next t e =
-      rw (next, kept-more (λ t. dominates t limit) (take i (corners u xs ys zs)) (join u p), tested, ← e)
+      rw (next, kept-more (λ t. dominates t limit) (take i (corners u xs ys zs)) (join u p), tested, e)
 
-  pub gathering-skip : {t : Bool} → t ≡ dominates p limit → t ≡ false → Gathering xs ys zs limit kx₀ ky₀ kz₀ places₀ out₀ ux uy uz kx ky kz places (set out i 0) m (i + 1)
-  gathering-skip {t} e f =
+  pub gathering-skip : dominates p limit ≡ false → Gathering xs ys zs limit kx₀ ky₀ kz₀ places₀ out₀ ux uy uz kx ky kz places (set out i 0) m (i + 1)
+  gathering-skip e =
       record {
         asked = h .asked;
         within = omega arith;
@@ -150,7 +146,7 @@ module _ {xs ys zs limit kx₀ ky₀ kz₀ places₀ out₀ : List ℕ} {ux uy u
         collected =
             record {
               few = omega (arith, old .few);
-              all = old .all ∙ sym (kept-next false (sym f ∙ e) ∙ append-nil _);
+              all = old .all ∙ sym (kept-next false e ∙ append-nil _);
               x = old .x;
               y = old .y;
               z = old .z;
@@ -164,12 +160,12 @@ module _ {xs ys zs limit kx₀ ky₀ kz₀ places₀ out₀ : List ℕ} {ux uy u
       every j d q (yes a) = old .every j a d
       every j d q (no a) =
           let last : j ≡ i = omega arith in
-          let never : false ≡ true = sym f ∙ e ∙ sym tested ∙ (rw (last, here) at d) in
+          let never : false ≡ true = sym e ∙ sym tested ∙ (rw (last, here) at d) in
           absurd (let z : _≡_ {A = ℕ} 0 1 = cc in omega arith)
 
-  pub gathering-more : {t : Bool} {vx vy vz : ℕ} → t ≡ dominates p limit → t ≡ true → vx ≡ max ux (getD xs i 0) → vy ≡ max uy (getD ys i 0) → vz ≡ max uz (getD zs i 0) → Gathering xs ys zs limit kx₀ ky₀ kz₀ places₀ out₀ ux uy uz (set kx m vx) (set ky m vy) (set kz m vz) (set places m i) (set out i 0) (m + 1) (i + 1)
+  pub gathering-more : {vx vy vz : ℕ} → dominates p limit ≡ true → vx ≡ max ux (getD xs i 0) → vy ≡ max uy (getD ys i 0) → vz ≡ max uz (getD zs i 0) → Gathering xs ys zs limit kx₀ ky₀ kz₀ places₀ out₀ ux uy uz (set kx m vx) (set ky m vy) (set kz m vz) (set places m i) (set out i 0) (m + 1) (i + 1)
   unfolding join
-  gathering-more {t} {vx} {vy} {vz} e f ex ey ez =
+  gathering-more {vx} {vy} {vz} e ex ey ez =
       record {
         asked = h .asked;
         within = omega arith;
@@ -210,7 +206,7 @@ module _ {xs ys zs limit kx₀ ky₀ kz₀ places₀ out₀ : List ℕ} {ux uy u
           let ky-many : length (take m ky) ≡ m = length-take-le m ky (omega arith) in
           let kz-many : length (take m kz) ≡ m = length-take-le m kz (omega arith) in
           rw (add-one m, take-suc-set kx m vx kx-room, take-suc-set ky m vy ky-room, take-suc-set kz m vz kz-room, points-more (take m kx) (take m ky) (take m kz) vx vy vz (omega arith) (omega arith), old .all, ex, ey, ez)
-          (sym (kept-next true (sym f ∙ e)))
+          (sym (kept-next true e))
 
       inside : (k : ℕ) → k < m + 1 → Dec (k < m) → getD (set places m i) k 0 < i + 1
       inside k q (yes a) = rw (getD-set-other places m k i 0 (λ g. omega arith)) (omega (arith, old .inside k a))

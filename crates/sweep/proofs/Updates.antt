@@ -1,6 +1,6 @@
 -- One more point u: the trials' corners with u are counted in their stead (laws 3 and 4), and of these only the ones
 -- within the limits (law 6).
-use Prim.Native.Nat.{ℕ, zero, suc, _+_, _-_, _≤_, _<_, max}
+use Prim.Native.Nat.{ℕ, zero, suc, _+_, _-_, _≤_, _<_}
 use mathlib.Core.Path.{_≡_, refl, sym, ap, _∙_, fun-ext}
 use mathlib.Core.Bool.{Bool, true, false}
 use mathlib.Core.List.{List, [], _∷_, _++_, map, map-map}
@@ -13,7 +13,7 @@ use Rattle.hypervolume.specs.Cells.{dominates, join, edges}
 use Rattle.hypervolume.specs.Counts.{total, contribution, gain, contributions, joints}
 use Rattle.hypervolume.proofs.Counting.{joint-corner, gain-edges, Twice}
 use Rattle.sweep.specs.Points.{points, Small, Ascending, Ready}
-use Rattle.sweep.specs.Limits.{Alike, Limits, kept, corners, Collecting, Raised, Stands, Collected, Spreading, spread}
+use Rattle.sweep.specs.Limits.{Alike, Limits, kept, corners, Raised, Stands, Collected, Spreading, spread}
 use Rattle.sweep.proofs.Lists.{ascending-at, getD-mapped, front-then}
 use Rattle.sweep.proofs.Coordinates.{points-length, points-at}
 use Rattle.sweep.proofs.Sweeps.{three}

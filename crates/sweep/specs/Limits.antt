@@ -3,13 +3,12 @@ use Prim.Native.Nat.{ℕ, suc, _+_, _≤_, _<_, max}
 use mathlib.Core.Path.{_≡_}
 use mathlib.Core.Bool.{Bool, true, false}
 use mathlib.Core.List.{List, [], _∷_, map}
-use mathlib.Core.Logic.{_⊎_}
 use lib.Dec.{leb}
 use lib.ListN.{length, take, getD, set}
-use Rattle.hypervolume.specs.Cells.{dominates, join}
+use Rattle.hypervolume.specs.Cells.{holds, dominates, join}
 use Rattle.hypervolume.specs.Counts.{cover}
 use Rattle.sweep.specs.declared.limits.Two.{Two}
-use Rattle.sweep.specs.Points.{points, Small}
+use Rattle.sweep.specs.Points.{points}
 
 abbrev pub pickTwo : Bool → Two → Two → Two
 pickTwo true a b = a
@@ -21,6 +20,10 @@ twoWith two n =
     pickTwo (leb (two .second) n) two
     (pickTwo (leb (two .least) n) (record { least = two .least; second = n })
     (record { least = n; second = two .least }))
+
+-- On how many axes a point is at most p.
+unfoldable pub axesWithin : ℕ → ℕ → ℕ → List ℕ → ℕ
+axesWithin x y z p = holds (leb x (getD p 0 0)) + holds (leb y (getD p 1 0)) + holds (leb z (getD p 2 0))
 
 -- n where the test holds; else 1,048,576, which limits nothing.
 unfoldable pub offer : Bool → ℕ → ℕ
@@ -53,6 +56,7 @@ corners u xs ys zs = map (join u) (points xs ys zs)
 
 -- What collecting the corners within a limit asks: room for all.
 pub record Collecting (xs ys zs u limit kx ky kz places out : List ℕ) : Type 0 where
+  pub few : length xs ≤ 512
   pub alike : Alike xs ys zs
   pub above : dominates u limit ≡ true
   pub kx-room : length xs ≤ length kx

@@ -45,7 +45,8 @@ pub fn sweep(xs: &[u64], ys: &[u64], zs: &[u64], reference: Point, out: &mut [u6
 }
 
 // The gain of u over the points, and in `out` its joint contribution with each. A trial shares with u just what its
-// upper corner with u dominates; of the edge product of u the gain is what no corner dominates.
+// upper corner with u dominates; of the edge product of u the gain is what no corner dominates. Most corners lie beyond
+// a limit, where two others dominate all that they do: these change no count and have none, so only the rest is swept.
 pub fn update(
     xs: &[u64],
     ys: &[u64],
@@ -62,7 +63,7 @@ pub fn update(
     let mut kx = [0u64; 512];
     let mut ky = [0u64; 512];
     let mut kz = [0u64; 512];
-    let mut places = [0usize; 512];
+    let mut places = [0u16; 512];
     let m = limits::collect(
         xs,
         ys,

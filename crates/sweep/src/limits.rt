@@ -3,12 +3,12 @@
 use crate::number::larger;
 use hypervolume::Point;
 ghost use mathlib.Core.Path.{_≡_};
-ghost use mathlib.Core.List.{[], _∷_, _++_};
+ghost use mathlib.Core.List.{_++_};
 ghost use lib.Dec.{leb};
 ghost use lib.ListN.{length, drop, replicate};
-ghost use Rattle.hypervolume.specs.Cells.{both, dominates};
-ghost use Rattle.sweep.specs.Points.{points};
-ghost use Rattle.sweep.specs.Limits.{offer, twoWith, Alike, Limits, Collecting, Collected, Spreading, spread};
+ghost use Rattle.hypervolume.specs.Cells.{both, holds};
+ghost use Rattle.sweep.specs.Points.{points, Small};
+ghost use Rattle.sweep.specs.Limits.{axesWithin, offer, twoWith, Alike, Limits, Collecting, Collected, Spreading, spread};
 
 // The two least of the numbers passed.
 pub struct Two {
@@ -37,11 +37,18 @@ impl Two {
     }
 }
 
-// Both of two tests, without a branch.
-fn both(a: bool, b: bool) -> bool
-    ensures { λ r. ⌜ r ≡ both a b ⌝ }
+// 1 where a is at most b. Adding such numbers up costs no branch, where a chain of tests would.
+fn at_most(a: u64, b: u64) -> u64
+    ensures { λ r. ⌜ r ≡ holds (leb a b) ⌝ }
 {
-    if a { b } else { false }
+    if a <= b { 1 } else { 0 }
+}
+
+// On how many of the axes a point is at most p.
+fn axes(x: u64, y: u64, z: u64, p: [u64; 3]) -> u64
+    ensures { λ r. ⌜ r ≡ axesWithin x y z p ⌝ }
+{
+    at_most(x, p[0]) + at_most(y, p[1]) + at_most(z, p[2])
 }
 
 // A coordinate as an offer for the limit on its axis: only a point that is at most u on the two other axes makes one.
@@ -49,45 +56,50 @@ fn both(a: bool, b: bool) -> bool
 fn offered(n: u64, a: u64, b: u64, ua: u64, ub: u64) -> u64
     ensures { λ r. ⌜ r ≡ offer (both (leb a ua) (leb b ub)) n ⌝ }
 {
-    if both(a <= ua, b <= ub) { n } else { 1048576 }
+    if ua < a {
+        return 1048576;
+    }
+    if ub < b {
+        return 1048576;
+    }
+    n
 }
 
-// The limit on each axis: the second least coordinate of the corners that equal u on the two other axes.
+// The limit on each axis: the second least coordinate of the corners that equal u on the two other axes. Only a point
+// within the limits so far and at most u on two axes can lower one, that is, a point that passes five of six tests.
 pub fn limits(xs: &[u64], ys: &[u64], zs: &[u64], u: Point) -> [u64; 3]
-    requires { ⌜ Alike (now xs) (now ys) (now zs) ⌝ }
+    requires { ⌜ Alike (now xs) (now ys) (now zs) × Small (u .at) ⌝ }
     ensures { λ r. ⌜ Limits (points (now (xs .entry)) (now (ys .entry)) (now (zs .entry))) (u .at) r ⌝ }
 {
     let ux = u.at[0] as u64;
     let uy = u.at[1] as u64;
     let uz = u.at[2] as u64;
+    let floor = [ux, uy, uz];
     let mut on_x = Two {
         least: 1048576,
         second: 1048576,
     };
     let mut on_y = on_x;
     let mut on_z = on_x;
+    let mut limit = [1048576u64; 3];
     let mut i: usize = 0;
     while i < xs.len() {
         let x = xs[i];
         let y = ys[i];
         let z = zs[i];
-        on_x = on_x.with(offered(x, y, z, uy, uz));
-        on_y = on_y.with(offered(y, x, z, ux, uz));
-        on_z = on_z.with(offered(z, x, y, ux, uy));
         i = i + 1;
+        if 5 <= axes(x, y, z, floor) + axes(x, y, z, limit) {
+            on_x = on_x.with(offered(x, y, z, uy, uz));
+            on_y = on_y.with(offered(y, x, z, ux, uz));
+            on_z = on_z.with(offered(z, x, y, ux, uy));
+            limit = [
+                larger(ux, on_x.second),
+                larger(uy, on_y.second),
+                larger(uz, on_z.second),
+            ];
+        }
     }
-    [
-        larger(ux, on_x.second),
-        larger(uy, on_y.second),
-        larger(uz, on_z.second),
-    ]
-}
-
-// Whether a point is at most the limit on every axis.
-fn within(x: u64, y: u64, z: u64, limit: [u64; 3]) -> bool
-    ensures { λ r. ⌜ r ≡ dominates (x ∷ y ∷ z ∷ []) limit ⌝ }
-{
-    both(x <= limit[0], both(y <= limit[1], z <= limit[2]))
+    limit
 }
 
 // The corners within the limit, in their order: how many, their coordinates, and in `places` where their points stand.
@@ -101,7 +113,7 @@ pub fn collect(
     kx: &mut [u64],
     ky: &mut [u64],
     kz: &mut [u64],
-    places: &mut [usize],
+    places: &mut [u16],
     out: &mut [u64],
 ) -> usize
     requires { ⌜ Collecting (now xs) (now ys) (now zs) (u .at) limit (now kx) (now ky) (now kz) (now places) (now out) ⌝ }
@@ -118,11 +130,11 @@ pub fn collect(
         let y = ys[i];
         let z = zs[i];
         out[i] = 0;
-        if within(x, y, z, limit) {
+        if axes(x, y, z, limit) == 3 {
             kx[m] = larger(ux, x);
             ky[m] = larger(uy, y);
             kz[m] = larger(uz, z);
-            places[m] = i;
+            places[m] = i as u16;
             m = m + 1;
             i = i + 1;
         } else {
@@ -133,13 +145,13 @@ pub fn collect(
 }
 
 // Puts each count where its point stands.
-pub fn spread(counts: &[u64], places: &[usize], out: &mut [u64])
+pub fn spread(counts: &[u64], places: &[u16], out: &mut [u64])
     requires { ⌜ Spreading (now counts) (now places) (now out) ⌝ }
     ensures { λ _. ⌜ now (out .exit) ≡ spread (now (out .entry)) (now (places .entry)) (now (counts .entry)) ⌝ }
 {
     let mut k: usize = 0;
     while k < places.len() {
-        let place = places[k];
+        let place = places[k] as usize;
         out[place] = counts[k];
         k = k + 1;
     }

@@ -1,9 +1,11 @@
 -- `collect` meets its contract. The invariant: the corners with the first i points have been collected.
 use Prim.Native.Nat.{_-_}
 use mathlib.Core.Path.{_≡_}
+use native.Mathlib.Omega.{arith}
 use lib.ListN.{length}
 use borrow.Author.Count.{falls}
 use borrow.Author.Needs.{needs}
+use Rattle.sweep.proofs.Bounds.{axes-all, axes-not}
 use Rattle.sweep.proofs.Collections.{Gathering, gathering-none, gathering-skip, gathering-more, gathering-end}
 use Rattle.sweep.proofs.limits.collect.Statement.{statement}
 use Rattle.sweep.proofs.limits.collect.Tie as tie
@@ -35,6 +37,9 @@ cast-uz c = search needs
 length-u : (c : tie.Start Inv-loop μ-loop) → length (c .args .t4 .at) ≡ 3
 length-u c = search needs
 
+length-limit : (c : tie.Start Inv-loop μ-loop) → length (c .args .limit) ≡ 3
+length-limit c = search needs
+
 loop-holds : tie.Need-loop-holds Inv-loop μ-loop
 loop-holds c = gathering-none _ (length-u (c .before .before .before .before .before .before .before .before .before .before .before)) (c .before .before .before .before .before .before .before .before .before .before .before .pre)
 
@@ -62,8 +67,8 @@ mul-out c = search needs
 slice-write-out : tie.Need-slice-write-out Inv-loop μ-loop
 slice-write-out c = search needs
 
-within-requires : tie.Need-within-requires Inv-loop μ-loop
-within-requires c κs = search needs
+axes-requires : tie.Need-axes-requires Inv-loop μ-loop
+axes-requires c κs = search needs
 
 larger-requires : tie.Need-larger-requires Inv-loop μ-loop
 larger-requires c κs = search needs
@@ -92,6 +97,11 @@ mul-kz c = search needs
 slice-write-kz : tie.Need-slice-write-kz Inv-loop μ-loop
 slice-write-kz c = search needs
 
+cast-places : tie.Need-cast-places Inv-loop μ-loop
+cast-places c =
+    let turn = c .before .before .before .before .before .before .before .before in
+    omega (arith, turn .before .loop .inv .asked .few, turn .loop-test .taken)
+
 mul-places : tie.Need-mul-places Inv-loop μ-loop
 mul-places c = search needs
 
@@ -111,7 +121,8 @@ loop-again : tie.Need-loop-again Inv-loop μ-loop
 loop-again c =
     let tested = c .before .before .before .before in
     let turn = tested .before .before .before .before in
-    gathering-more (turn .before .loop .inv) (turn .loop-test .taken) (tested .within .ensures) (c .before .before .before .if1 .taken)
+    gathering-more (turn .before .loop .inv) (turn .loop-test .taken)
+    (axes-all _ _ _ _ (length-limit (turn .before .before .before .before .before .before .before .before .before .before .before .before .before)) (tested .axes .ensures) (c .before .before .before .if1 .taken))
     (c .before .before .larger .ensures) (c .before .larger2 .ensures) (c .larger3 .ensures)
 
 add-i-2 : tie.Need-add-i-2 Inv-loop μ-loop
@@ -123,7 +134,8 @@ loop-less-2 c = falls _ _ (c .before .before .before .before .before .loop-test 
 loop-again-2 : tie.Need-loop-again-2 Inv-loop μ-loop
 loop-again-2 c =
     let turn = c .before .before .before .before .before in
-    gathering-skip (turn .before .loop .inv) (turn .loop-test .taken) (c .before .within .ensures) (c .if1 .left)
+    gathering-skip (turn .before .loop .inv) (turn .loop-test .taken)
+    (axes-not _ _ _ _ (length-limit (turn .before .before .before .before .before .before .before .before .before .before .before .before .before)) (c .before .axes .ensures) (c .if1 .left))
 
 same-length : tie.Need-same-length Inv-loop μ-loop
 same-length c = search needs
@@ -164,7 +176,7 @@ collect-spec =
     shared-slice-read-z
     mul-out
     slice-write-out
-    within-requires
+    axes-requires
     larger-requires
     mul-kx
     slice-write-kx
@@ -174,6 +186,7 @@ collect-spec =
     larger-requires-3
     mul-kz
     slice-write-kz
+    cast-places
     mul-places
     slice-write-places
     add-m

@@ -1,18 +1,19 @@
--- `limits` meets its contract. The invariant: on each axis the two least offers of the first i points.
-use Prim.Native.Nat.{_-_}
+-- `limits` meets its contract. The invariant: the two least offers of the first i points on each axis, and their limits.
+use Prim.Native.Nat.{_-_, _≤_}
 use mathlib.Core.Path.{_≡_}
+use native.Mathlib.Omega.{arith}
 use lib.ListN.{length}
 use borrow.Author.Count.{falls}
 use borrow.Author.Needs.{needs}
-use Rattle.sweep.proofs.Bounds.{Bounding, bounding-none, bounding-more, bounding-end}
+use Rattle.sweep.proofs.Bounds.{axes-few, Bounding, bounding-none, bounding-skip, bounding-more, bounding-end}
 use Rattle.sweep.proofs.limits.limits.Statement.{statement}
 use Rattle.sweep.proofs.limits.limits.Tie as tie
 
 abbrev Inv-loop : tie.InvT-loop
-Inv-loop xs ys zs ux uy uz on-x₀ on-y₀ on-z₀ i₀ on-x on-y on-z i = Bounding xs ys zs ux uy uz on-x on-y on-z i
+Inv-loop xs ys zs ux uy uz floor on-x₀ on-y₀ on-z₀ limit₀ i₀ on-x on-y on-z limit i = Bounding xs ys zs ux uy uz on-x on-y on-z limit i
 
 abbrev μ-loop : tie.MeasureT-loop
-μ-loop xs ys zs ux uy uz on-x₀ on-y₀ on-z₀ i₀ on-x on-y on-z i = length xs - i
+μ-loop xs ys zs ux uy uz floor on-x₀ on-y₀ on-z₀ limit₀ i₀ on-x on-y on-z limit i = length xs - i
 
 element-copy-out-ux : tie.Need-element-copy-out-ux Inv-loop μ-loop
 element-copy-out-ux c = search needs
@@ -32,8 +33,11 @@ element-copy-out-uz c = search needs
 cast-uz : tie.Need-cast-uz Inv-loop μ-loop
 cast-uz c = search needs
 
+length-u : (c : tie.Start Inv-loop μ-loop) → length (c .args .t4 .at) ≡ 3
+length-u c = search needs
+
 loop-holds : tie.Need-loop-holds Inv-loop μ-loop
-loop-holds c = bounding-none _ _ _ (c .before .before .before .before .before .before .pre)
+loop-holds c = bounding-none (c .before .before .before .before .before .before .args .t4 .at) (c .before .before .before .before .before .before .pre .0) (c .before .before .before .before .before .before .pre .1)
 
 mul-x : tie.Need-mul-x Inv-loop μ-loop
 mul-x c = search needs
@@ -53,6 +57,21 @@ mul-z c = search needs
 shared-slice-read-z : tie.Need-shared-slice-read-z Inv-loop μ-loop
 shared-slice-read-z c = search needs
 
+add-i : tie.Need-add-i Inv-loop μ-loop
+add-i c = search needs
+
+axes-requires : tie.Need-axes-requires Inv-loop μ-loop
+axes-requires c κs = search needs
+
+axes-requires-2 : tie.Need-axes-requires-2 Inv-loop μ-loop
+axes-requires-2 c κs = search needs
+
+add-if1 : tie.Need-add-if1 Inv-loop μ-loop
+add-if1 c =
+    let first : c .before .axes .result ≤ 3 = axes-few _ _ _ _ (c .before .axes .ensures) in
+    let second : c .axes2 .result ≤ 3 = axes-few _ _ _ _ (c .axes2 .ensures) in
+    omega arith
+
 offered-requires : tie.Need-offered-requires Inv-loop μ-loop
 offered-requires c κs = search needs
 
@@ -71,20 +90,6 @@ offered-requires-3 c κs = search needs
 with-requires-3 : tie.Need-with-requires-3 Inv-loop μ-loop
 with-requires-3 c κs = search needs
 
-add-i : tie.Need-add-i Inv-loop μ-loop
-add-i c = search needs
-
-loop-less : tie.Need-loop-less Inv-loop μ-loop
-loop-less c = falls _ _ (c .before .before .before .before .before .before .before .before .before .loop-test .taken)
-
-loop-again : tie.Need-loop-again Inv-loop μ-loop
-loop-again c =
-    let turn = c .before .before .before .before .before .before .before .before .before in
-    bounding-more (turn .before .loop .inv) (turn .loop-test .taken)
-    (c .before .before .before .before .before .offered .ensures) (c .before .before .before .before .with .ensures)
-    (c .before .before .before .offered2 .ensures) (c .before .before .with2 .ensures)
-    (c .before .offered3 .ensures) (c .with3 .ensures)
-
 larger-requires : tie.Need-larger-requires Inv-loop μ-loop
 larger-requires c κs = search needs
 
@@ -94,14 +99,29 @@ larger-requires-2 c κs = search needs
 larger-requires-3 : tie.Need-larger-requires-3 Inv-loop μ-loop
 larger-requires-3 c κs = search needs
 
-length-u : (c : tie.Start Inv-loop μ-loop) → length (c .args .t4 .at) ≡ 3
-length-u c = search needs
+loop-less : tie.Need-loop-less Inv-loop μ-loop
+loop-less c = falls _ _ (c .before .before .before .before .before .before .before .before .before .before .before .before .before .before .before .loop-test .taken)
+
+loop-again : tie.Need-loop-again Inv-loop μ-loop
+loop-again c =
+    let turn = c .before .before .before .before .before .before .before .before .before .before .before .before .before .before .before in
+    let passed = c .before .before .before in
+    bounding-more (turn .before .loop .inv) (turn .loop-test .taken)
+    (passed .before .before .before .before .before .offered .ensures) (passed .before .before .before .before .with .ensures)
+    (passed .before .before .before .offered2 .ensures) (passed .before .before .with2 .ensures)
+    (passed .before .offered3 .ensures) (passed .with3 .ensures)
+    (c .before .before .larger .ensures) (c .before .larger2 .ensures) (c .larger3 .ensures)
+
+loop-less-2 : tie.Need-loop-less-2 Inv-loop μ-loop
+loop-less-2 c = falls _ _ (c .before .before .before .before .before .before .loop-test .taken)
+
+loop-again-2 : tie.Need-loop-again-2 Inv-loop μ-loop
+loop-again-2 c =
+    let turn = c .before .before .before .before .before .before in
+    bounding-skip (turn .before .loop .inv) (turn .loop-test .taken)
 
 returns : tie.Need-returns Inv-loop μ-loop
-returns c =
-    let end = c .before .before .before in
-    bounding-end _ (length-u (end .before .before .before .before .before .before .before .before)) (end .before .loop .inv) (end .loop-test .left)
-    (c .before .before .larger .ensures) (c .before .larger2 .ensures) (c .larger3 .ensures)
+returns c = bounding-end _ (length-u (c .before .before .before .before .before .before .before .before)) (c .before .loop .inv) (c .loop-test .left)
 
 pub limits-spec : {M : Type 1} → statement M
 limits-spec =
@@ -122,16 +142,21 @@ limits-spec =
     shared-slice-read-y
     mul-z
     shared-slice-read-z
+    add-i
+    axes-requires
+    axes-requires-2
+    add-if1
     offered-requires
     with-requires
     offered-requires-2
     with-requires-2
     offered-requires-3
     with-requires-3
-    add-i
-    loop-less
-    loop-again
     larger-requires
     larger-requires-2
     larger-requires-3
+    loop-less
+    loop-again
+    loop-less-2
+    loop-again-2
     returns)

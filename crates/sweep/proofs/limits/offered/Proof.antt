@@ -1,20 +1,21 @@
--- `offered` meets its contract, by the branch taken.
-use mathlib.Core.Path.{sym, ap, _∙_}
-use borrow.Author.Needs.{needs}
+-- `offered` meets its contract, by the branches taken.
+use borrow.Author.Tests.{le-leb, lt-leb}
+use Rattle.hypervolume.specs.Cells.{both}
 use Rattle.sweep.specs.Limits.{offer}
 use Rattle.sweep.proofs.limits.offered.Statement.{statement}
 use Rattle.sweep.proofs.limits.offered.Tie as tie
 
-both-requires : tie.Need-both-requires
-both-requires c κs = search needs
-
 returns : tie.Need-returns
-unfolding offer
-returns c = rw (sym (c .before .both .ensures) ∙ c .if1 .taken)
+unfolding both offer
+returns c = simp (lt-leb _ _ (c .if1 .taken))
 
 returns-2 : tie.Need-returns-2
-unfolding offer
-returns-2 c = rw (sym (c .before .both .ensures) ∙ c .if1 .left)
+unfolding both offer
+returns-2 c = simp (le-leb _ _ (c .before .if1 .left), lt-leb _ _ (c .if2 .taken))
+
+returns-3 : tie.Need-returns-3
+unfolding both offer
+returns-3 c = simp (le-leb _ _ (c .before .if1 .left), le-leb _ _ (c .if2 .left))
 
 pub offered-spec : {M : Type 1} → statement M
-offered-spec = tie.close (tie.spec both-requires returns returns-2)
+offered-spec = tie.close (tie.spec returns returns-2 returns-3)

@@ -23,6 +23,9 @@ mul-place c = search needs
 shared-slice-read-place : tie.Need-shared-slice-read-place Inv-loop μ-loop
 shared-slice-read-place c = search needs
 
+cast-place : tie.Need-cast-place Inv-loop μ-loop
+cast-place c = omega (arith, c .shared-slice-known .given (c .before .before .loop .k))
+
 mul-out : tie.Need-mul-out Inv-loop μ-loop
 mul-out c = search needs
 
@@ -59,6 +62,7 @@ spread-spec =
     loop-holds
     mul-place
     shared-slice-read-place
+    cast-place
     mul-out
     shared-slice-read-out
     mul-out-2
