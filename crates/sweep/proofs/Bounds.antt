@@ -7,8 +7,8 @@ use native.Mathlib.Nat.{le-trans}
 use native.Mathlib.Numerals.{add-one}
 use native.Mathlib.Omega.{arith}
 use lib.Dec.{leb, eqb}
-use lib.ListN.{length, take, getD, set}
-use lib.Seq.{take-suc, take-all}
+use lib.ListN.{length, take, drop, getD, set, take-append-drop}
+use lib.Seq.{take-suc}
 use borrow.Author.Tests.{leb-true, le-leb, eq-eqb, ne-eqb}
 use Rattle.hypervolume.specs.Cells.{both, holds, dominates}
 use Rattle.hypervolume.specs.Counts.{cover}
@@ -143,11 +143,11 @@ least-later {passed} {u} {a} {two} p h =
       more = λ l. omega (arith, h .more l, later passed p (set u a (two .second)));
     }
 
-limits-later : {passed : List (List ℕ)} {u limit : List ℕ} (p : List ℕ) → Limits passed u limit → Limits (passed ++ (p ∷ [])) u limit
-limits-later {passed} {u} {limit} p h =
+limits-later : {passed : List (List ℕ)} {u limit : List ℕ} (more : List (List ℕ)) → Limits passed u limit → Limits (passed ++ more) u limit
+limits-later {passed} {u} {limit} more h =
     record {
       above = h .above;
-      twice = λ a m l. omega (arith, h .twice a m l, later passed p (set u a (getD limit a 0)));
+      twice = λ a m l. omega (arith, h .twice a m l, cover-append passed more (set u a (getD limit a 0)));
     }
 
 -- The pass over the points.
@@ -202,7 +202,7 @@ module _ {xs ys zs : List ℕ} {ux uy uz : ℕ} {on-x on-y on-z : Two} {limit : 
         x = rw (next l) (least-later p (h .x));
         y = rw (next l) (least-later p (h .y));
         z = rw (next l) (least-later p (h .z));
-        limits = rw (next l) (limits-later p (h .limits));
+        limits = rw (next l) (limits-later (p ∷ []) (h .limits));
       }
 
   pub bounding-more : {ox oy oz nx ny nz : ℕ} {on-x′ on-y′ on-z′ : Two} → i < length xs → ox ≡ offer (both (leb py uy) (leb pz uz)) px → on-x′ ≡ twoWith on-x ox → oy ≡ offer (both (leb px ux) (leb pz uz)) py → on-y′ ≡ twoWith on-y oy → oz ≡ offer (both (leb px ux) (leb py uy)) pz → on-z′ ≡ twoWith on-z oz → nx ≡ max ux (on-x′ .second) → ny ≡ max uy (on-y′ .second) → nz ≡ max uz (on-z′ .second) → Bounding xs ys zs ux uy uz on-x′ on-y′ on-z′ (nx ∷ ny ∷ nz ∷ []) (i + 1)
@@ -225,11 +225,10 @@ module _ {xs ys zs : List ℕ} {ux uy uz : ℕ} {on-x on-y on-z : Two} {limit : 
       z′ : Least (take (i + 1) (points xs ys zs)) (ux ∷ uy ∷ uz ∷ []) 2 on-z′
       z′ = rw (next l, ez) (least-more p oz (h .z) (offer-z px py pz ux uy uz fz))
 
-  whole : length xs ≤ i → take i (points xs ys zs) ≡ points xs ys zs
-  whole l = take-all i (points xs ys zs) (omega (arith, many))
-
-pub bounding-end : {xs ys zs : List ℕ} {on-x on-y on-z : Two} {limit : List ℕ} {i : ℕ} (u : List ℕ) → length u ≡ 3 → Bounding xs ys zs (getD u 0 0) (getD u 1 0) (getD u 2 0) on-x on-y on-z limit i → length xs ≤ i → Limits (points xs ys zs) u limit
-bounding-end u e h l = rw (whole h l, three u e) at (h .limits)
+-- The limits of the first points are limits of all.
+pub bounding-end : {xs ys zs : List ℕ} {on-x on-y on-z : Two} {limit : List ℕ} {i : ℕ} (u : List ℕ) → length u ≡ 3 → Bounding xs ys zs (getD u 0 0) (getD u 1 0) (getD u 2 0) on-x on-y on-z limit i → Limits (points xs ys zs) u limit
+bounding-end {xs} {ys} {zs} {i = i} u e h =
+    rw (three u e, take-append-drop i (points xs ys zs)) at (limits-later (drop i (points xs ys zs)) (h .limits))
 
 -- Adding up the tests of the three axes.
 pub test-few : (t : Bool) {n : ℕ} → n ≡ holds t → n ≤ 1

@@ -66,7 +66,8 @@ fn offered(n: u64, a: u64, b: u64, ua: u64, ub: u64) -> u64
 }
 
 // The limit on each axis: the second least coordinate of the corners that equal u on the two other axes. Only a point
-// within the limits so far and at most u on two axes can lower one, that is, a point that passes five of six tests.
+// within the limits so far and at most u on two axes can lower one, that is, a point that passes five of six tests. The
+// points ascend on z, so past the limit on z none does.
 pub fn limits(xs: &[u64], ys: &[u64], zs: &[u64], u: Point) -> [u64; 3]
     requires { ⌜ Alike (now xs) (now ys) (now zs) × Small (u .at) ⌝ }
     ensures { λ r. ⌜ Limits (points (now (xs .entry)) (now (ys .entry)) (now (zs .entry))) (u .at) r ⌝ }
@@ -87,6 +88,9 @@ pub fn limits(xs: &[u64], ys: &[u64], zs: &[u64], u: Point) -> [u64; 3]
         let x = xs[i];
         let y = ys[i];
         let z = zs[i];
+        if limit[2] < z {
+            return limit;
+        }
         i = i + 1;
         if 5 <= axes(x, y, z, floor) + axes(x, y, z, limit) {
             on_x = on_x.with(offered(x, y, z, uy, uz));
@@ -103,7 +107,7 @@ pub fn limits(xs: &[u64], ys: &[u64], zs: &[u64], u: Point) -> [u64; 3]
 }
 
 // The corners within the limit, in their order: how many, their coordinates, and in `places` where their points stand.
-// Every count in `out` becomes 0, which is what the corners left out have.
+// Every count in `out` becomes 0, which is what the corners left out have. (A place takes 16 bits, to save stack.)
 pub fn collect(
     xs: &[u64],
     ys: &[u64],

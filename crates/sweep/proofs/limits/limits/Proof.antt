@@ -4,8 +4,8 @@ use mathlib.Core.Path.{_≡_}
 use native.Mathlib.Omega.{arith}
 use lib.ListN.{length}
 use borrow.Author.Count.{falls}
-use borrow.Author.Needs.{needs}
 use Rattle.sweep.proofs.Bounds.{axes-few, Bounding, bounding-none, bounding-skip, bounding-more, bounding-end}
+use borrow.Author.Needs.{needs}
 use Rattle.sweep.proofs.limits.limits.Statement.{statement}
 use Rattle.sweep.proofs.limits.limits.Tie as tie
 
@@ -57,6 +57,14 @@ mul-z c = search needs
 shared-slice-read-z : tie.Need-shared-slice-read-z Inv-loop μ-loop
 shared-slice-read-z c = search needs
 
+array-read-if1 : tie.Need-array-read-if1 Inv-loop μ-loop
+array-read-if1 c = search needs
+
+returns : tie.Need-returns Inv-loop μ-loop
+returns c =
+    let turn = c .before .before .before .before in
+    bounding-end _ (length-u (turn .before .before .before .before .before .before .before .before)) (turn .before .loop .inv)
+
 add-i : tie.Need-add-i Inv-loop μ-loop
 add-i c = search needs
 
@@ -66,8 +74,8 @@ axes-requires c κs = search needs
 axes-requires-2 : tie.Need-axes-requires-2 Inv-loop μ-loop
 axes-requires-2 c κs = search needs
 
-add-if1 : tie.Need-add-if1 Inv-loop μ-loop
-add-if1 c =
+add-if2 : tie.Need-add-if2 Inv-loop μ-loop
+add-if2 c =
     let first : c .before .axes .result ≤ 3 = axes-few _ _ _ _ (c .before .axes .ensures) in
     let second : c .axes2 .result ≤ 3 = axes-few _ _ _ _ (c .axes2 .ensures) in
     omega arith
@@ -100,11 +108,11 @@ larger-requires-3 : tie.Need-larger-requires-3 Inv-loop μ-loop
 larger-requires-3 c κs = search needs
 
 loop-less : tie.Need-loop-less Inv-loop μ-loop
-loop-less c = falls _ _ (c .before .before .before .before .before .before .before .before .before .before .before .before .before .before .before .loop-test .taken)
+loop-less c = falls _ _ (c .before .before .before .before .before .before .before .before .before .before .before .before .before .before .before .before .loop-test .taken)
 
 loop-again : tie.Need-loop-again Inv-loop μ-loop
 loop-again c =
-    let turn = c .before .before .before .before .before .before .before .before .before .before .before .before .before .before .before in
+    let turn = c .before .before .before .before .before .before .before .before .before .before .before .before .before .before .before .before in
     let passed = c .before .before .before in
     bounding-more (turn .before .loop .inv) (turn .loop-test .taken)
     (passed .before .before .before .before .before .offered .ensures) (passed .before .before .before .before .with .ensures)
@@ -113,15 +121,15 @@ loop-again c =
     (c .before .before .larger .ensures) (c .before .larger2 .ensures) (c .larger3 .ensures)
 
 loop-less-2 : tie.Need-loop-less-2 Inv-loop μ-loop
-loop-less-2 c = falls _ _ (c .before .before .before .before .before .before .loop-test .taken)
+loop-less-2 c = falls _ _ (c .before .before .before .before .before .before .before .loop-test .taken)
 
 loop-again-2 : tie.Need-loop-again-2 Inv-loop μ-loop
 loop-again-2 c =
-    let turn = c .before .before .before .before .before .before in
+    let turn = c .before .before .before .before .before .before .before in
     bounding-skip (turn .before .loop .inv) (turn .loop-test .taken)
 
-returns : tie.Need-returns Inv-loop μ-loop
-returns c = bounding-end _ (length-u (c .before .before .before .before .before .before .before .before)) (c .before .loop .inv) (c .loop-test .left)
+returns-2 : tie.Need-returns-2 Inv-loop μ-loop
+returns-2 c = bounding-end _ (length-u (c .before .before .before .before .before .before .before .before)) (c .before .loop .inv)
 
 pub limits-spec : {M : Type 1} → statement M
 limits-spec =
@@ -142,10 +150,12 @@ limits-spec =
     shared-slice-read-y
     mul-z
     shared-slice-read-z
+    array-read-if1
+    returns
     add-i
     axes-requires
     axes-requires-2
-    add-if1
+    add-if2
     offered-requires
     with-requires
     offered-requires-2
@@ -159,4 +169,4 @@ limits-spec =
     loop-again
     loop-less-2
     loop-again-2
-    returns)
+    returns-2)
