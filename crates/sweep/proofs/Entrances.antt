@@ -9,19 +9,19 @@ use native.Mathlib.Numerals.{add-one}
 use native.Mathlib.Omega.{arith}
 use lib.Dec.{leb, eqb}
 use lib.ListN.{length, take, drop, getD, length-append, length-take, length-drop, take-append-drop}
-use lib.Seq.{length-take-le, getD-take, take-take, take-at, drop-at}
+use lib.Seq.{length-take-le, getD-take, take-at, drop-at, drop-drop}
 use borrow.Author.Tests.{leb-true}
 use Rattle.hypervolume.specs.Cells.{both, holds, dominates}
 use Rattle.hypervolume.proofs.Tests.{Compared, below, above, compared, both-true, both-comm}
 use Rattle.sweep.specs.declared.column.Column.{Column}
 use Rattle.sweep.specs.Line.{tally, flagged, spot, xOf, yOf, indexOf, flagOf, over, overBy, low, Rising, FlagRight, Flagged, Kept, Ranked, AlikeAt, insertAt}
 use Rattle.sweep.specs.Strips.{Standing}
-use Rattle.sweep.specs.Entries.{pickEntry, Below, Thinned, Thinning, Walked, Closed, Entering, Entered}
+use Rattle.sweep.specs.Entries.{pickEntry, Below, Thinned, Thinning, Walked, Placed, Closed, Entering, Entered}
 use Rattle.sweep.proofs.Tallies.{tally-append, tally-le}
 use Rattle.sweep.proofs.Columns.{standing-some}
 use Rattle.sweep.proofs.Orders.{rising-front, rising-join}
 use Rattle.sweep.proofs.Flags.{over-append, over-cons, Fewer, fewer-same, flagged-fewer, flagged-front, flagged-join}
-use Rattle.sweep.proofs.Thinnings.{alike-then, alike-same, covers, below-append, below-join, take-drop}
+use Rattle.sweep.proofs.Thinnings.{alike-then, alike-same, covers, below-append, below-join, take-drop, drop-take}
 
 -- Where the entries of a line are at most p on x, those that are at most p on y dominate what p dominates.
 low-over : (line : List ℕ) (x y i j : ℕ) → ((k : ℕ) → k < length line → xOf (getD line k 0) ≤ x) → dominates (x ∷ y ∷ []) (i ∷ j ∷ []) ≡ true → low line y ≤ over line (i ∷ j ∷ [])
@@ -133,24 +133,18 @@ module _ {line : List ℕ} {m at next : ℕ} (asked : Entering line m at next) w
           }
 
     -- Its entry goes in.
-    module _ (l : y < column .second) {left : List ℕ} {to from : ℕ} (walked : Walked line m at next left to from) {left′ : List ℕ} {end : ℕ} (closed : Closed left to from m left′ end) where
+    module _ (l : y < column .second) {left : List ℕ} {to from : ℕ} (walked : Walked line m at next left to from) where
       new : List ℕ
       new = drop at (take to left) ++ drop from (take m left)
 
-      closed-is : take end left′ ≡ take at line ++ new
-      unfolding new
-      closed-is =
-          let stays : take to left ≡ take at line ++ drop at (take to left) =
-          sym (take-drop at to left (walked .front)) ∙ ap (λ r. r ++ drop at (take to left)) (walked .before) in
-          closed .joined
-          ∙ ap (λ r. r ++ drop from (take m left)) stays
-          ∙ append-assoc (take at line) (drop at (take to left)) (drop from (take m left))
+      stays : take to left ≡ take at line ++ drop at (take to left)
+      stays = sym (take-drop at to left (walked .front)) ∙ ap (λ r. r ++ drop at (take to left)) (walked .before)
 
       thinned : Thinned (take at line) (drop at (take m line)) next new
       unfolding new
       thinned = walked .thinned
 
-      module _ {b : Bool} (f : b ≡ leb (column .least) y) (left″ : List ℕ) (placed : take (end + 1) left″ ≡ insertAt at (pickEntry b (flagged next) next) (take end left′)) where
+      module _ {b : Bool} (f : b ≡ leb (column .least) y) where
         v : ℕ
         v = pickEntry b (flagged next) next
 
@@ -160,12 +154,6 @@ module _ {line : List ℕ} {m at next : ℕ} (asked : Entering line m at next) w
 
         all : List ℕ
         all = take at line ++ (v ∷ new)
-
-        placed-is : take (end + 1) left″ ≡ all
-        unfolding all v
-        placed-is =
-            placed
-            ∙ rw (closed-is, take-at (take at line) new at front-long, drop-at (take at line) new at front-long)
 
         -- its flag
         flag-right : FlagRight (take at line) v
@@ -227,11 +215,45 @@ module _ {line : List ℕ} {m at next : ℕ} (asked : Entering line m at next) w
             let parts = below-append n (take at line) (drop at (take m line)) (rw whole g) in
             below-join n (take at line) (v ∷ new) (parts .0) (omega (arith, same .index), thinned .below n (parts .1))
 
-        pub entered-so : Entered ry line m next left″ (end + 1)
-        entered-so =
+        entered : (left″ : List ℕ) (end : ℕ) → take end left″ ≡ all → end ≤ m + 1 → Entered ry line m next left″ end
+        entered left″ end is k =
             record {
-              within = omega (arith, closed .ends, walked .gap, walked .within);
-              kept = rw placed-is (record { rising = rising; flags = flags });
-              alike = λ i j n. rw placed-is (alike i j);
-              below = λ n g k. rw placed-is (below-all n g k);
+              within = k;
+              kept = rw is (record { rising = rising; flags = flags });
+              alike = λ i j n. rw is (alike i j);
+              below = λ n g h. rw is (below-all n g h);
             }
+
+        inserted : (rest : List ℕ) → insertAt at v (take at line ++ rest) ≡ take at line ++ (v ∷ rest)
+        inserted rest = rw (take-at (take at line) rest at front-long, drop-at (take at line) rest at front-long)
+
+        -- No entry has left: those from `at` on have moved up.
+        pub entered-more : {left″ : List ℕ} → to ≡ from → Placed left m at (pickEntry b (flagged next) next) left″ → Entered ry line m next left″ (m + 1)
+        unfolding all new v
+        entered-more {left″} e p =
+            let whole′ : take m left ≡ take at line ++ new =
+            sym (take-drop from m left (walked .within))
+            ∙ ap (λ r. r ++ drop from (take m left)) (ap (λ k. take k left) (sym e) ∙ stays)
+            ∙ append-assoc (take at line) (drop at (take to left)) (drop from (take m left)) in
+            entered left″ (m + 1) (p .placed ∙ ap (insertAt at v) whole′ ∙ inserted new) (omega arith)
+
+        -- Entries have left: the new one has taken room of theirs, and what was left of it is closed.
+        pub entered-room : {left′ left″ : List ℕ} {end : ℕ} → (to ≡ from → ⊥) → Placed left to at (pickEntry b (flagged next) next) left′ → Closed left′ (to + 1) from m left″ end → Entered ry line m next left″ end
+        unfolding all new v
+        entered-room {left′} {left″} {end} differ p c =
+            let gap : to < from = omega (arith, walked .gap) in
+            let split : from ≡ to + 1 + (from - (to + 1)) = omega arith in
+            let behind : drop from left′ ≡ drop from left =
+            ap (λ k. drop k left′) split
+            ∙ sym (drop-drop (from - (to + 1)) (to + 1) left′)
+            ∙ ap (drop (from - (to + 1))) (p .behind)
+            ∙ drop-drop (from - (to + 1)) (to + 1) left
+            ∙ ap (λ k. drop k left) (sym split) in
+            let rest : drop from (take m left′) ≡ drop from (take m left) =
+            drop-take from m left′ ∙ ap (take (m - from)) behind ∙ sym (drop-take from m left) in
+            entered left″ end
+            (c .joined
+            ∙ ap (λ r. r ++ drop from (take m left′)) (p .placed ∙ ap (insertAt at v) stays ∙ inserted (drop at (take to left)))
+            ∙ ap (λ r. (take at line ++ (v ∷ drop at (take to left))) ++ r) rest
+            ∙ append-assoc (take at line) (v ∷ drop at (take to left)) (drop from (take m left)))
+            (omega (arith, c .ends, walked .gap, walked .within))

@@ -5,9 +5,9 @@ use mathlib.Core.List.{List, _∷_, _++_}
 use native.Mathlib.Decide.{decLe, ℕ-discrete}
 use native.Mathlib.Omega.{arith}
 use lib.ListN.{length, take, drop, getD, set, length-append, length-take, length-drop, length-set, take-append-drop, List·getD-append}
-use lib.Seq.{length-take-le, getD-take, getD-drop, getD-at, getD-append-add, getD-set-same, getD-set-other, take-take, ext-getD}
+use lib.Seq.{length-take-le, getD-take, getD-drop, getD-at, getD-append-add, getD-set-same, getD-set-other, drop-set-lt, take-take, ext-getD}
 use Rattle.sweep.specs.Line.{insertAt}
-use Rattle.sweep.specs.Entries.{Closed}
+use Rattle.sweep.specs.Entries.{Placed, Closed}
 
 -- What stands where in a list with one more entry.
 module _ (at w : ℕ) (l : List ℕ) (fits : at ≤ length l) where
@@ -36,6 +36,7 @@ pub record Shifted (old : List ℕ) (m at : ℕ) (line : List ℕ) (k : ℕ) : T
   pub alike : length line ≡ length old
   pub kept : (j : ℕ) → j < k → getD line j 0 ≡ getD old j 0
   pub moved : (j : ℕ) → k ≤ j → j < m → getD line (suc j) 0 ≡ getD old j 0
+  pub behind : drop (m + 1) line ≡ drop (m + 1) old
 
 pub shifted-none : (old : List ℕ) (m at : ℕ) → at ≤ m → m < length old → Shifted old m at old m
 shifted-none old m at l r =
@@ -46,6 +47,7 @@ shifted-none old m at l r =
       alike = refl;
       kept = λ j n. refl;
       moved = λ j n o. absurd (let no′ : ⊥ = omega arith in no′);
+      behind = refl;
     }
 
 pub shifted-more : {old : List ℕ} {m at : ℕ} {line : List ℕ} {k : ℕ} → Shifted old m at line k → at < k → Shifted old m at (set line k (getD line (k - 1) 0)) (k - 1)
@@ -57,6 +59,7 @@ shifted-more {old} {m} {at} {line} {k} h l =
       alike = length-set line k v ∙ h .alike;
       kept = λ j n. getD-set-other line k j v 0 (λ q. omega arith) ∙ h .kept j (omega arith);
       moved = λ j n o. moved j n o (ℕ-discrete (suc j) k);
+      behind = drop-set-lt (m + 1) line k v (omega (arith, h .within)) ∙ h .behind;
     }
   where
     v : ℕ
@@ -70,13 +73,12 @@ shifted-more {old} {m} {at} {line} {k} h l =
     moved j n o (no q) = getD-set-other line k (suc j) v 0 q ∙ h .moved j (omega arith) o
 
 -- The entry goes to `at`.
-pub shifted-end : {old : List ℕ} {m at : ℕ} {line : List ℕ} {k : ℕ} (entry : ℕ) → Shifted old m at line k → k ≤ at → take (m + 1) (set line at entry) ≡ insertAt at entry (take m old)
+pub shifted-end : {old : List ℕ} {m at : ℕ} {line : List ℕ} {k : ℕ} (entry : ℕ) → Shifted old m at line k → k ≤ at → Placed old m at entry (set line at entry)
 shifted-end {old} {m} {at} {line} {k} entry h l =
-    ext-getD 0 (take (m + 1) (set line at entry)) (insertAt at entry (take m old))
-    (omega (arith, taken, insert-length at entry (take m old) fits, first-long))
-    (λ j n.
-    let inside : j < m + 1 = omega (arith, taken) in
-    getD-take (m + 1) (set line at entry) j 0 inside ∙ cases j inside (decLe (suc j) at) (decLe j at))
+    record {
+      placed = placed;
+      behind = drop-set-lt (m + 1) line at entry (omega (arith, h .front, h .within)) ∙ h .behind;
+    }
   where
     same : k ≡ at
     same = omega (arith, h .front)
@@ -105,6 +107,14 @@ shifted-end {old} {m} {at} {line} {k} entry h l =
         getD-set-other line at (suc j) entry 0 (λ q. omega arith)
         ∙ h .moved j (omega (arith, same)) (omega arith)
         ∙ sym (insert-after at entry (take m old) fits j (omega arith) ∙ getD-take m old j 0 (omega arith))
+
+    placed : take (m + 1) (set line at entry) ≡ insertAt at entry (take m old)
+    placed =
+        ext-getD 0 (take (m + 1) (set line at entry)) (insertAt at entry (take m old))
+        (omega (arith, taken, insert-length at entry (take m old) fits, first-long))
+        (λ j n.
+        let inside : j < m + 1 = omega (arith, taken) in
+        getD-take (m + 1) (set line at entry) j 0 inside ∙ cases j inside (decLe (suc j) at) (decLe j at))
 
 -- The first i of the entries from `from` on have moved down to `to`.
 pub record Closing (old : List ℕ) (to from m : ℕ) (line : List ℕ) (i : ℕ) : Type 0 where

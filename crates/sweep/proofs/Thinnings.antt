@@ -11,7 +11,7 @@ use native.Mathlib.Decide.{decLe, ℕ-discrete}
 use native.Mathlib.Omega.{arith}
 use lib.Dec.{leb, eqb}
 use lib.ListN.{length, take, drop, getD, set, length-append, length-take, length-drop, length-set, take-append-drop, drop-of-length-le}
-use lib.Seq.{append-snoc, drop-cons, drop-append-le, getD-take, getD-drop, take-take, take-add, drop-at, drop-drop, length-take-le, take-set-le, take-set-lt, drop-set-lt, take-suc-set}
+use lib.Seq.{append-snoc, drop-cons, drop-append-le, getD-take, getD-drop, take-take, take-nil, drop-drop, length-take-le, take-set-le, take-set-lt, drop-set-lt, take-suc-set}
 use borrow.Author.Tests.{le-leb, lt-leb}
 use Rattle.hypervolume.specs.Cells.{both, holds, dominates}
 use Rattle.hypervolume.proofs.Tests.{both-comm}
@@ -360,11 +360,13 @@ walking-none line m at next h =
           below = λ n b. b;
         }
 
-drop-take : (from m : ℕ) (l : List ℕ) → from ≤ m → from ≤ length l → drop from (take m l) ≡ take (m - from) (drop from l)
-drop-take from m l p q =
-    let split : m ≡ from + (m - from) = omega arith in
-    ap (λ k. drop from (take k l)) split
-    ∙ rw (take-add from (m - from) l) (drop-at (take from l) (take (m - from) (drop from l)) from (length-take-le from l q))
+pub drop-take : (from m : ℕ) (l : List ℕ) → drop from (take m l) ≡ take (m - from) (drop from l)
+drop-take zero m l = let all : m - 0 ≡ m = omega arith in rw all
+drop-take (suc from) zero l = let none : 0 - suc from ≡ 0 = omega arith in rw none
+drop-take (suc from) (suc m) [] = sym (take-nil (suc m - suc from))
+drop-take (suc from) (suc m) (w ∷ l) =
+    let less : suc m - suc from ≡ m - from = omega arith in
+    drop-take from m l ∙ ap (λ k. take k (drop from l)) (sym less)
 
 odd : (w : ℕ) → (flagOf w ≡ 0 → ⊥) → flagOf w ≡ 1
 odd w n = go (ℕ-discrete (flagOf w) 0)
@@ -444,9 +446,7 @@ module _ {line : List ℕ} {m at next : ℕ} {now : List ℕ} {to from : ℕ} (h
 
   unread-part : drop from (take m now) ≡ drop from (take m line)
   unread-part =
-      drop-take from m now (omega arith) (omega (arith, h .long, asked′ .room))
-      ∙ ap (take (m - from)) (h .unread)
-      ∙ sym (drop-take from m line (omega arith) (omega (arith, asked′ .room)))
+      drop-take from m now ∙ ap (take (m - from)) (h .unread) ∙ sym (drop-take from m line)
 
   pub walking-stop : {y v f : ℕ} → y ≡ yOf next → v ≡ yOf (getD now from 0) → v < y → f ≡ flagOf (getD now from 0) → f ≡ 0 → Walked line m at next now to from
   walking-stop e g under′ i n =

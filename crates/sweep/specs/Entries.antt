@@ -4,7 +4,7 @@ use mathlib.Core.Path.{_≡_}
 use mathlib.Core.Bool.{Bool, true, false}
 use mathlib.Core.List.{List, [], _∷_, _++_}
 use lib.ListN.{length, take, drop, getD}
-use Rattle.sweep.specs.Line.{xOf, yOf, indexOf, flagOf, Rising, Flagged, Kept, Ranked, AlikeAt, Alike}
+use Rattle.sweep.specs.Line.{xOf, yOf, indexOf, flagOf, Rising, Flagged, Kept, Ranked, AlikeAt, Alike, insertAt}
 
 abbrev pub pickEntry : Bool → ℕ → ℕ → ℕ
 pickEntry true v w = v
@@ -38,6 +38,11 @@ pub record Walked (line : List ℕ) (m at next : ℕ) (left : List ℕ) (to from
   pub within : from ≤ m
   pub before : take at left ≡ take at line
   pub thinned : Thinned (take at line) (drop at (take m line)) next (drop at (take to left) ++ drop from (take m left))
+
+-- An entry put in among the first m; the words behind are as they were.
+pub record Placed (line : List ℕ) (m at entry : ℕ) (left : List ℕ) : Type 0 where
+  pub placed : take (m + 1) left ≡ insertAt at entry (take m line)
+  pub behind : drop (m + 1) left ≡ drop (m + 1) line
 
 -- The gap closed.
 pub record Closed (line : List ℕ) (to from m : ℕ) (left : List ℕ) (end : ℕ) : Type 0 where

@@ -8,9 +8,9 @@ ghost use Prim.Native.Nat.{ℕ, _+_, _≤_, _<_};
 ghost use lib.Dec.{leb};
 ghost use lib.ListN.{length, take};
 ghost use Rattle.hypervolume.specs.Cells.{holds};
-ghost use Rattle.sweep.specs.Line.{entryOf, flagged, xOf, yOf, indexOf, flagOf, Rising, Ranked, insertAt};
+ghost use Rattle.sweep.specs.Line.{entryOf, flagged, xOf, yOf, indexOf, flagOf, Rising, Ranked};
 ghost use Rattle.sweep.specs.Strips.{Standing};
-ghost use Rattle.sweep.specs.Entries.{pickEntry, Thinning, Walked, Closed, Entering, Entered};
+ghost use Rattle.sweep.specs.Entries.{pickEntry, Thinning, Walked, Placed, Closed, Entering, Entered};
 
 pub fn entry(x: u64, y: u64, index: usize) -> u64
     requires { ⌜ (x ≤ 1048576) × (y ≤ 1048576) × (index < 512) ⌝ }
@@ -135,7 +135,7 @@ fn close(line: &mut [u64], to: usize, from: usize, m: usize) -> usize
 // Puts the entry in at `at`, among the first m.
 fn place(line: &mut [u64], m: usize, at: usize, entry: u64)
     requires { ⌜ (at ≤ m) × (m < length (now line)) ⌝ }
-    ensures { λ _. ⌜ take (m + 1) (now (line .exit)) ≡ insertAt at entry (take m (now (line .entry))) ⌝ }
+    ensures { λ _. ⌜ Placed (now (line .entry)) m at entry (now (line .exit)) ⌝ }
 {
     let mut k = m;
     while at < k {
@@ -146,7 +146,7 @@ fn place(line: &mut [u64], m: usize, at: usize, entry: u64)
 }
 
 // The line of m entries with the next point, which belongs at `at`, where the column is that of the entries before: answers how
-// many entries it has then. A point that two of them cover is left out.
+// many entries it has then. A point that two of them cover is left out. Where entries leave, the new one takes their room.
 pub fn enter(line: &mut [u64], m: usize, at: usize, column: Column, next: u64) -> usize
     requires { ⌜ Entering (now line) m at next ⌝ }
     ensures { λ r. ⌜ ((ry : ℕ) → Standing ry (take at (now (line .entry))) column → Entered ry (now (line .entry)) m next (now (line .exit)) r) ⌝ }
@@ -156,7 +156,13 @@ pub fn enter(line: &mut [u64], m: usize, at: usize, column: Column, next: u64) -
         return m;
     }
     let gap = thin(line, m, at, next);
-    let left = close(line, gap.to, gap.from, m);
-    place(line, left, at, flag_where(column.least <= y, next));
-    left + 1
+    let to = gap.to;
+    let from = gap.from;
+    let entry = flag_where(column.least <= y, next);
+    if to == from {
+        place(line, m, at, entry);
+        return m + 1;
+    }
+    place(line, to, at, entry);
+    close(line, to + 1, from, m)
 }

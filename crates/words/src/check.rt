@@ -98,18 +98,20 @@ fn ascends(m: u64, n: u64, rest: bool) -> bool
     if m < n { true } else { both(m == n, rest) }
 }
 
-// Whether t stands before u in ascending order of z, then y, then x, then trial number.
+// Whether t stands before u in ascending order of z, then y, then x, then trial number. Mostly z decides.
 pub fn before(t: Row, u: Row) -> bool
     ensures { λ r. ⌜ r ≡ before (as-row t .trial) (as-row u .trial) ⌝ }
 {
+    if t.z < u.z {
+        return true;
+    }
+    if u.z < t.z {
+        return false;
+    }
     ascends(
-        t.z,
-        u.z,
-        ascends(
-            t.y,
-            u.y,
-            ascends(t.x, u.x, ascends(t.number, u.number, false)),
-        ),
+        t.y,
+        u.y,
+        ascends(t.x, u.x, ascends(t.number, u.number, false)),
     )
 }
 
