@@ -1,0 +1,583 @@
+// The benchmark: compares every answer with the exact one, times, and prints one table.
+//
+//   driver [--quick]
+//
+// Ends with 1 where the library or the Rust yardstick answers wrongly.
+#include "cases.hpp"
+#include "peer.hpp"
+#include "timing.hpp"
+#include "yardstick.h"
+
+#include <cmath>
+#include <cstring>
+#include <iostream>
+#include <map>
+#include <memory>
+
+namespace
+{
+
+// The two that work on words.
+struct Library {
+    const char *name;
+    decltype(&ta_insert) insert;
+    decltype(&ta_remove) remove;
+    decltype(&ta_least) least;
+    decltype(&ta_reduce) reduce;
+    decltype(&ta_audit) audit;
+    decltype(&ta_card_load) card_load;
+    decltype(&ta_report) report;
+};
+
+const Library archive{"archive", ta_insert, ta_remove,    ta_least,
+                      ta_reduce, ta_audit,  ta_card_load, ta_report};
+const Library yardstick{"rust",    rs_insert, rs_remove,    rs_least,
+                        rs_reduce, rs_audit,  rs_card_load, rs_report};
+
+// What is timed of them.
+using Task = void (*)(const Library &, State &, const Case &);
+
+void audit(const Library &l, State &s, const Case &)
+{
+    ta_answer answer = l.audit(s.words.data(), s.words.size());
+    s.refusal = answer.refusal;
+    s.value = answer.value;
+}
+
+void insertion(const Library &l, State &s, const Case &c)
+{
+    auto [x, y, z] = c.trial.at;
+    s.refusal = l.insert(s.words.data(), s.words.size(), c.trial.number, x, y, z);
+}
+
+void removal(const Library &l, State &s, const Case &c)
+{
+    s.refusal = l.remove(s.words.data(), s.words.size(), c.trial.number);
+}
+
+void exchange(const Library &l, State &s, const Case &c)
+{
+    insertion(l, s, c);
+    ta_least_answer least = l.least(s.words.data(), s.words.size());
+    s.least = least.number;
+    s.value = least.contribution;
+    s.refusal |= least.refusal | l.remove(s.words.data(), s.words.size(), least.number);
+}
+
+void reduction(const Library &l, State &s, const Case &c)
+{
+    ta_answer answer = l.reduce(s.words.data(), s.words.size(), c.keep, s.log.data(), s.log.size());
+    s.refusal = answer.refusal;
+    s.value = answer.value;
+}
+
+void card_load(const Library &l, State &s, const Case &c)
+{
+    ta_load_answer answer =
+        l.card_load(s.words.data(), s.words.size(), c.card.data(), c.card.size());
+    s.refusal = answer.refusal;
+    s.value = answer.count;
+}
+
+void report(const Library &l, State &s, const Case &)
+{
+    ta_answer answer = l.report(s.words.data(), s.words.size(), s.out.data(), s.out.size());
+    s.refusal = answer.refusal;
+    s.value = answer.value;
+}
+
+Contestant on_words(const Library &library, Task task, std::size_t batch)
+{
+    struct Place {
+        State state;
+        const Case *asked;
+    };
+    auto places = std::make_shared<std::vector<Place>>(batch);
+    auto prepare = [places](std::size_t place, const Case &c) {
+        (*places)[place].state = c.before;
+        (*places)[place].asked = &c;
+    };
+    auto run = [places, &library, task](std::size_t place) {
+        task(library, (*places)[place].state, *(*places)[place].asked);
+    };
+    return {batch, prepare, run};
+}
+
+void compare(const Library &library, Task task, const std::string &call,
+             const std::vector<Case> &cases)
+{
+    for (const Case &c : cases) {
+        State state = c.before;
+        task(library, state, c);
+        if (!(state == c.after))
+            throw std::runtime_error(std::string(library.name) + " is wrong: " + call);
+    }
+}
+
+// An audit that always said yes would pass the comparison: one cell too many or too few must be
+// found, in the total and in every contribution.
+void compare_no(const Library &library, const std::vector<Case> &cases)
+{
+    for (const Case &c : cases) {
+        std::vector<std::size_t> kept{TA_TOTAL};
+        for (std::size_t i = 0; i < c.before.words[TA_COUNT]; i++)
+            kept.push_back(TA_RECORDS + TA_RECORD_WORDS * i + 4);
+        for (std::size_t word : kept) {
+            State state = c.before;
+            state.words[word] += state.words[word] == 0 ? 1 : -1;
+            audit(library, state, c);
+            if (state.refusal != 0 || state.value != 0)
+                throw std::runtime_error(std::string(library.name) + " passes a wrong count");
+        }
+    }
+}
+
+// Those that recompute. What they find is used, so that no work can be left out.
+volatile double found;
+
+Contestant textbook_recount()
+{
+    auto asked = std::make_shared<const Case *>();
+    auto prepare = [asked](std::size_t, const Case &c) { *asked = &c; };
+    auto run = [asked](std::size_t) {
+        std::vector<Count> all = textbook::contributions((*asked)->points, (*asked)->reference);
+        found = static_cast<double>(*std::min_element(all.begin(), all.end()));
+    };
+    return {1, prepare, run};
+}
+
+Contestant textbook_reduction()
+{
+    auto asked = std::make_shared<const Case *>();
+    auto prepare = [asked](std::size_t, const Case &c) { *asked = &c; };
+    auto run = [asked](std::size_t) {
+        std::vector<Point> points = (*asked)->points;
+        while (points.size() > (*asked)->keep) {
+            std::vector<Count> all = textbook::contributions(points, (*asked)->reference);
+            points.erase(points.begin() + (std::min_element(all.begin(), all.end()) - all.begin()));
+        }
+        found = points.empty() ? 0 : points[0][0];
+    };
+    return {1, prepare, run};
+}
+
+peer::Points doubles(const std::vector<Point> &points)
+{
+    peer::Points result;
+    for (const Point &p : points)
+        result.emplace_back(p.begin(), p.end());
+    return result;
+}
+
+std::vector<double> doubles(const Point &p) { return {p.begin(), p.end()}; }
+
+Contestant peer_recount()
+{
+    auto ready = std::make_shared<std::unique_ptr<peer::Ready>>();
+    auto prepare = [ready](std::size_t, const Case &c) {
+        *ready = std::make_unique<peer::Ready>(doubles(c.points), doubles(c.reference));
+    };
+    auto run = [ready](std::size_t) {
+        std::vector<double> all = (*ready)->contributions();
+        found = *std::min_element(all.begin(), all.end());
+    };
+    return {1, prepare, run};
+}
+
+Contestant peer_reduction()
+{
+    struct Given {
+        peer::Points points;
+        std::vector<double> reference;
+        std::size_t keep = 0;
+    };
+    auto given = std::make_shared<Given>();
+    auto prepare = [given](std::size_t, const Case &c) {
+        *given = Given{doubles(c.points), doubles(c.reference), static_cast<std::size_t>(c.keep)};
+    };
+    auto run = [given](std::size_t) {
+        found = static_cast<double>(
+            peer::reduce(std::move(given->points), given->reference, given->keep).size());
+    };
+    return {1, prepare, run};
+}
+
+// How many answers of the peer were compared, how many were wrong, and how many of these no more
+// than a difference of large numbers in double precision must be.
+struct Tally {
+    std::size_t asked = 0, wrong = 0, rounded = 0;
+
+    void add(bool right, bool near)
+    {
+        asked++;
+        wrong += !right;
+        rounded += !right && near;
+    }
+
+    std::string text() const
+    {
+        if (asked == 0)
+            return "–";
+        std::string result = std::to_string(wrong) + " of " + std::to_string(asked);
+        if (rounded > 0)
+            result += ", " + (rounded == wrong ? "all" : std::to_string(rounded)) + " by rounding";
+        return result;
+    }
+};
+
+// Below 2^53 a double can be exact, and is held to it; above, to nine digits.
+bool right(double answer, Count exact)
+{
+    double value = static_cast<double>(exact);
+    if (exact < (Count{1} << 53))
+        return answer == value;
+    return std::fabs(answer - value) <= 1e-9 * value;
+}
+
+Tally peer_contributions(const std::vector<Case> &cases)
+{
+    Tally tally;
+    for (const Case &c : cases) {
+        double total = static_cast<double>(textbook::total(c.points, c.reference));
+        std::vector<double> all =
+            peer::Ready(doubles(c.points), doubles(c.reference)).contributions();
+        for (std::size_t i = 0; i < all.size(); i++) {
+            double error = std::fabs(all[i] - static_cast<double>(c.exact[i]));
+            tally.add(right(all[i], c.exact[i]), error <= 1e-12 * total);
+        }
+    }
+    return tally;
+}
+
+// Any least contributor is right, also where several have the least.
+bool least_right(const std::vector<Count> &exact, std::size_t answer)
+{
+    return exact[answer] == *std::min_element(exact.begin(), exact.end());
+}
+
+Tally peer_least(const std::vector<Case> &cases)
+{
+    Tally tally;
+    for (const Case &c : cases)
+        tally.add(
+            least_right(c.exact, peer::Ready(doubles(c.points), doubles(c.reference)).least()),
+            false);
+    return tally;
+}
+
+// Each drop is judged on the points that the peer itself has left.
+Tally peer_drops(const std::vector<Case> &cases)
+{
+    Tally tally;
+    for (const Case &c : cases) {
+        std::vector<std::size_t> left(c.points.size());
+        std::iota(left.begin(), left.end(), std::size_t{0});
+        std::vector<Point> points = c.points;
+        for (std::size_t drop : peer::reduce(doubles(points), doubles(c.reference), c.keep)) {
+            std::ptrdiff_t at = std::find(left.begin(), left.end(), drop) - left.begin();
+            std::vector<Count> exact = textbook::alone(points, c.reference);
+            tally.add(least_right(exact, static_cast<std::size_t>(at)), false);
+            points.erase(points.begin() + at);
+            left.erase(left.begin() + at);
+        }
+    }
+    return tally;
+}
+
+// The table.
+struct Row {
+    std::string call, set, trials;
+    Samples archive, rust, textbook, pagmo;
+    Tally tally;
+};
+
+std::string number(double value)
+{
+    char text[32];
+    std::snprintf(text, sizeof text, "%.*f", value < 9.995 ? 2 : value < 99.95 ? 1 : 0, value);
+    return text;
+}
+
+std::string spread(double middle, double low, double high)
+{
+    return number(middle) + " (" + number(low) + "–" + number(high) + ")";
+}
+
+// How many times as long as the archive.
+std::string times(const Samples &other, const Samples &archive)
+{
+    double own = archive.median();
+    return other.empty() ? "–"
+                         : spread(other.median() / own, other.low() / own, other.high() / own);
+}
+
+void print(const Row &r)
+{
+    double own = r.archive.median();
+    std::cout << "| " << r.call << " | " << r.set << " | " << r.trials << " | "
+              << spread(own, r.archive.low(), r.archive.high()) << " | "
+              << spread(own / r.rust.median(), own / r.rust.high(), own / r.rust.low()) << " | "
+              << times(r.textbook, r.archive) << " | " << times(r.pagmo, r.archive) << " | "
+              << r.tally.text() << " |" << std::endl;
+}
+
+const std::string all_contributions = "all contributions (audit)";
+const std::string one_insertion = "insertion";
+const std::string three_calls = "insertion, least, removal";
+const std::string one_removal = "removal";
+const std::string reducing = "reduce";
+
+// Coordinates that many points share.
+const std::uint32_t coarse = 32;
+
+class Benchmark
+{
+public:
+    explicit Benchmark(bool quick) : effort(quick ? Effort{4, 12, 1, 0.05} : Effort{8, 300, 5, 1.0})
+    {
+    }
+
+    void run()
+    {
+        small_sets();
+        std::cout << "| call | set | trials | archive, µs | archive ÷ rust | textbook ÷ archive "
+                     "| pagmo ÷ archive | pagmo wrong |\n|---|---|---|---|---|---|---|---|\n";
+        const std::vector<Kind> kinds{Kind::cliff, Kind::spherical, Kind::uniform};
+        for (Kind kind : kinds)
+            for (std::size_t size : {64, 200, 512})
+                audits(kind, size, TA_MAX_REFERENCE, name(kind));
+        for (std::size_t size : {64, 200, 512})
+            audits(Kind::spoiled, size, TA_MAX_REFERENCE, name(Kind::spoiled));
+        for (Kind kind : {Kind::spherical, Kind::uniform})
+            for (std::size_t size : {64, 200})
+                audits(kind, size, coarse, name(kind) + ", 0 to 32");
+        for (Kind kind : kinds)
+            for (std::size_t size : {65, 201, 512})
+                updates(one_insertion, insertion, &Story::insertion, kind, size, size - 1);
+        for (Kind kind : kinds)
+            for (std::size_t size : {65, 201, 512})
+                updates(three_calls, exchange, &Story::exchange, kind, size, size - 1);
+        for (Kind kind : kinds)
+            for (std::size_t size : {64, 200, 512})
+                updates(one_removal, removal, &Story::removal, kind, size, size);
+        for (auto [from, keep] : {std::pair<std::size_t, std::size_t>{64, 1}, {512, 256}, {512, 1}})
+            for (Kind kind : kinds)
+                reductions(kind, from, keep);
+        for (Kind kind : kinds)
+            plain("card load", card_load, &Story::card, kind, 1);
+        for (Kind kind : kinds)
+            plain("report", report, &Story::report, kind, 8);
+        notes();
+        smallest();
+        targets();
+    }
+
+private:
+    static Story agreed_story(const Set &set)
+    {
+        Story story(set);
+        if (!story.agreed())
+            throw std::runtime_error("two textbook counts differ");
+        return story;
+    }
+
+    // Small sets with many equal and dominated points, compared and not timed.
+    static void small_sets()
+    {
+        for (std::uint64_t seed = 0; seed < 300; seed++) {
+            Kind kind = static_cast<Kind>(seed % 3);
+            Story story = agreed_story(make_set(kind, 2 + seed % 23, 1 + seed % 7, false, seed));
+            for (const Library *library : {&archive, &yardstick}) {
+                compare(*library, audit, "small audit", {story.audit()});
+                compare(*library, insertion, "small insertion", {story.insertion()});
+                compare(*library, removal, "small removal", {story.removal()});
+                compare(*library, exchange, "small exchange", {story.exchange()});
+                compare(*library, reduction, "small reduction",
+                        {story.reduction(0), story.reduction(1)});
+                compare(*library, card_load, "small card", {story.card()});
+                compare(*library, report, "small report", {story.report()});
+                compare_no(*library, {story.audit()});
+            }
+        }
+    }
+
+    const std::vector<Story> &stories(Kind kind, std::size_t size, std::uint32_t scale)
+    {
+        std::vector<Story> &known = told[{kind, size, scale}];
+        for (std::uint64_t seed = known.size(); seed < effort.sets; seed++)
+            known.push_back(agreed_story(make_set(kind, size, scale, kind != Kind::uniform, seed)));
+        return known;
+    }
+
+    template <class Tell>
+    std::vector<Case> cases(Kind kind, std::size_t size, std::uint32_t scale, Tell tell)
+    {
+        std::vector<Case> result;
+        for (const Story &story : stories(kind, size, scale))
+            result.push_back(tell(story));
+        return result;
+    }
+
+    // Compares, then times the two on words and those of the others that take part.
+    void row(Row r, Task task, std::size_t batch, const std::vector<Case> &cases,
+             std::unique_ptr<Contestant> textbook, std::unique_ptr<Contestant> pagmo)
+    {
+        compare(archive, task, r.call, cases);
+        compare(yardstick, task, r.call, cases);
+        Contestant own = on_words(archive, task, batch), rust = on_words(yardstick, task, batch);
+        std::vector<Contestant *> contestants{&own, &rust};
+        for (Contestant *other : {textbook.get(), pagmo.get()})
+            if (other != nullptr)
+                contestants.push_back(other);
+        measure(contestants, cases, effort);
+        r.archive = own.samples;
+        r.rust = rust.samples;
+        if (textbook != nullptr)
+            r.textbook = textbook->samples;
+        if (pagmo != nullptr)
+            r.pagmo = pagmo->samples;
+        print(r);
+        rows.push_back(r);
+    }
+
+    static std::unique_ptr<Contestant> made(Contestant contestant)
+    {
+        return std::make_unique<Contestant>(std::move(contestant));
+    }
+
+    void audits(Kind kind, std::size_t size, std::uint32_t scale, const std::string &set)
+    {
+        std::vector<Case> asked = cases(kind, size, scale, std::mem_fn(&Story::audit));
+        compare_no(archive, asked);
+        compare_no(yardstick, asked);
+        Row r{all_contributions,        set, std::to_string(size), {}, {}, {}, {},
+              peer_contributions(asked)};
+        row(r, audit, 8, asked, made(textbook_recount()), made(peer_recount()));
+    }
+
+    void updates(const std::string &call, Task task, Case (Story::*tell)() const, Kind kind,
+                 std::size_t size, std::size_t trials)
+    {
+        std::vector<Case> asked = cases(kind, size, TA_MAX_REFERENCE, std::mem_fn(tell));
+        Tally tally = call == three_calls ? peer_least(asked) : peer_contributions(asked);
+        Row r{call, name(kind), std::to_string(trials), {}, {}, {}, {}, tally};
+        row(r, task, 8, asked, made(textbook_recount()), made(peer_recount()));
+    }
+
+    // The textbook's way is slow from 512 trials; it is measured from 64 alone.
+    void reductions(Kind kind, std::size_t from, std::size_t keep)
+    {
+        std::vector<Case> asked =
+            cases(kind, from, TA_MAX_REFERENCE,
+                  [keep = keep](const Story &s) { return s.reduction(keep); });
+        asked.resize(std::min<std::size_t>(asked.size(), 3));
+        std::string trials = std::to_string(from) + " → " + std::to_string(keep);
+        Row r{reducing, name(kind), trials, {}, {}, {}, {}, peer_drops(asked)};
+        row(r, reduction, 1, asked, from <= 64 ? made(textbook_reduction()) : nullptr,
+            made(peer_reduction()));
+    }
+
+    void plain(const std::string &call, Task task, Case (Story::*tell)() const, Kind kind,
+               std::size_t batch)
+    {
+        std::vector<Case> asked = cases(kind, 512, TA_MAX_REFERENCE, std::mem_fn(tell));
+        row(Row{call, name(kind), "512", {}, {}, {}, {}, {}}, task, batch, asked, nullptr, nullptr);
+    }
+
+    static void notes()
+    {
+        std::cout << "\nMedians, in brackets the 10th and the 90th percentile: of the archive in "
+                     "its own column, "
+                     "of the other one in a column of ratios.\n"
+                     "pagmo wrong: contributions for all contributions, insertion and removal; "
+                     "least contributors "
+                     "for the three calls; drops for reduce. A contribution below 2^53 is compared "
+                     "exactly, a "
+                     "larger one to a relative 1e-9; by rounding: the error is at most 1e-12 of "
+                     "the total.\n";
+    }
+
+    // The smallest known set on which the peer miscounts.
+    static void smallest()
+    {
+        Set set{{3, 3, 3}, {{0, 1, 1}, {1, 0, 1}, {0, 2, 0}}};
+        std::vector<Case> asked{agreed_story(set).audit()};
+        compare(archive, audit, "three points", asked);
+        compare(yardstick, audit, "three points", asked);
+        std::cout << "\nReference (3,3,3), points (0,1,1), (1,0,1), (0,2,0): contributions";
+        for (Count exact : asked[0].exact)
+            std::cout << ' ' << exact;
+        std::cout << " (archive and rust: the same); pagmo's contributions";
+        for (double answer :
+             peer::Ready(doubles(set.points), doubles(set.reference)).contributions())
+            std::cout << ' ' << answer;
+        std::cout << ", one by one (exclusive)";
+        for (std::size_t i = 0; i < set.points.size(); i++)
+            std::cout << ' '
+                      << peer::Ready(doubles(set.points), doubles(set.reference)).exclusive(i);
+        std::cout << ".\n";
+    }
+
+    // Targets. The worst row decides.
+    void target(const std::string &what, const std::vector<double> &ratios, bool at_most,
+                double bound) const
+    {
+        double worst = at_most ? *std::max_element(ratios.begin(), ratios.end())
+                               : *std::min_element(ratios.begin(), ratios.end());
+        bool met = at_most ? worst <= bound : worst >= bound;
+        std::cout << "- " << (met ? "met: " : "missed: ") << what
+                  << (at_most ? " at most " : " at least ") << number(bound) << " ×; the worst is "
+                  << number(worst) << " ×\n";
+    }
+
+    void targets() const
+    {
+        std::cout << "\nTargets:\n";
+        for (const std::string &call : {one_insertion, one_removal, all_contributions, reducing}) {
+            std::vector<double> ratios;
+            for (const Row &r : rows)
+                if (r.call == call)
+                    ratios.push_back(r.archive.median() / r.rust.median());
+            target(call + ", archive ÷ rust", ratios, true, 1.5);
+        }
+        auto against_peer = [this](const std::string &call, const std::string &trials,
+                                   bool uniform) {
+            std::vector<double> ratios;
+            for (const Row &r : rows)
+                if (r.call == call && r.trials == trials &&
+                    (uniform || r.set != name(Kind::uniform)))
+                    ratios.push_back(r.pagmo.median() / r.archive.median());
+            return ratios;
+        };
+        target(three_calls + " at 200, cliff and spherical, pagmo ÷ archive",
+               against_peer(three_calls, "200", false), false, 8);
+        target(three_calls + " at 511, cliff and spherical, pagmo ÷ archive",
+               against_peer(three_calls, "511", false), false, 10);
+        target(all_contributions + " at 512, pagmo ÷ archive",
+               against_peer(all_contributions, "512", true), false, 6);
+        target(reducing + " 512 → 1, pagmo ÷ archive", against_peer(reducing, "512 → 1", true),
+               false, 30);
+    }
+
+    Effort effort;
+    std::map<std::tuple<Kind, std::size_t, std::uint32_t>, std::vector<Story>> told;
+    std::vector<Row> rows;
+};
+
+} // namespace
+
+int main(int argc, char **argv)
+{
+    bool quick = argc == 2 && std::strcmp(argv[1], "--quick") == 0;
+    if (argc > 1 && !quick) {
+        std::cerr << "usage: driver [--quick]\n";
+        return 2;
+    }
+    try {
+        Benchmark(quick).run();
+    } catch (const std::exception &trouble) {
+        std::cerr << "benchmarks: " << trouble.what() << '\n';
+        return 1;
+    }
+    return 0;
+}

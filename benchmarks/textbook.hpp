@@ -1,0 +1,93 @@
+// Counting as textbooks give it, in whole numbers: exact, and plain enough to be read at a glance.
+#ifndef TEXTBOOK_HPP
+#define TEXTBOOK_HPP
+
+#include "data.hpp"
+
+#include <algorithm>
+#include <numeric>
+
+namespace textbook
+{
+
+using Count = std::uint64_t;
+
+// Slicing: the points cut the box into slices along z, and in each slice the area is a walk along
+// x with the least y so far.
+inline Count total(std::vector<Point> points, Point reference)
+{
+    std::sort(points.begin(), points.end(), [](Point p, Point q) { return p[2] < q[2]; });
+    std::vector<Point> line;
+    line.reserve(points.size());
+    Count total = 0;
+    for (std::size_t i = 0; i < points.size(); i++) {
+        Point p = points[i];
+        auto later = [](Point q, Point e) { return q[0] < e[0]; };
+        line.insert(std::upper_bound(line.begin(), line.end(), p, later), p);
+        std::uint32_t top = i + 1 < points.size() ? points[i + 1][2] : reference[2];
+        std::uint32_t least = reference[1];
+        Count area = 0;
+        for (std::size_t k = 0; k < line.size(); k++) {
+            std::uint32_t end = k + 1 < line.size() ? line[k + 1][0] : reference[0];
+            least = std::min(least, line[k][1]);
+            area += Count(end - line[k][0]) * (reference[1] - least);
+        }
+        total += area * (top - p[2]);
+    }
+    return total;
+}
+
+// Each contribution is the total less the total without the point.
+inline std::vector<Count> contributions(const std::vector<Point> &points, Point reference)
+{
+    Count all = total(points, reference);
+    std::vector<Count> result;
+    for (std::size_t i = 0; i < points.size(); i++) {
+        std::vector<Point> others = points;
+        others.erase(others.begin() + static_cast<std::ptrdiff_t>(i));
+        result.push_back(all - total(std::move(others), reference));
+    }
+    return result;
+}
+
+// The same numbers sooner, for the comparisons of the benchmark: in each strip of each slice the
+// cells between the least and the second least y are its owner's alone. It is held against the
+// two above before it is relied on.
+inline std::vector<Count> alone(const std::vector<Point> &points, Point reference)
+{
+    struct Owned {
+        Point at;
+        std::size_t owner;
+    };
+    std::vector<std::size_t> order(points.size());
+    std::iota(order.begin(), order.end(), std::size_t{0});
+    std::stable_sort(order.begin(), order.end(),
+                     [&](std::size_t i, std::size_t j) { return points[i][2] < points[j][2]; });
+    std::vector<Count> result(points.size());
+    std::vector<Owned> line;
+    for (std::size_t i = 0; i < order.size(); i++) {
+        Point p = points[order[i]];
+        auto later = [](Point q, const Owned &e) { return q[0] < e.at[0]; };
+        line.insert(std::upper_bound(line.begin(), line.end(), p, later), Owned{p, order[i]});
+        std::uint32_t top = i + 1 < order.size() ? points[order[i + 1]][2] : reference[2];
+        std::uint32_t least = reference[1], second = reference[1];
+        std::size_t owner = 0;
+        for (std::size_t k = 0; k < line.size() && top > p[2]; k++) {
+            std::uint32_t end = k + 1 < line.size() ? line[k + 1].at[0] : reference[0];
+            std::uint32_t y = line[k].at[1];
+            if (y < least) {
+                second = least;
+                least = y;
+                owner = line[k].owner;
+            } else {
+                second = std::min(second, y);
+            }
+            result[owner] += Count(end - line[k].at[0]) * (second - least) * (top - p[2]);
+        }
+    }
+    return result;
+}
+
+} // namespace textbook
+
+#endif
