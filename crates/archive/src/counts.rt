@@ -63,7 +63,7 @@ pub fn count_joints(w: &[u64], skip: usize, p: Point, out: &mut [u64]) -> u64
     let m = load(w, n, 1, skip, &mut xs);
     load(w, n, 2, skip, &mut ys);
     load(w, n, 3, skip, &mut zs);
-    sweep::update(
+    corners::update(
         &xs[..m],
         &ys[..m],
         &zs[..m],

@@ -1,6 +1,5 @@
 -- Laws of the sweep. Tallies, Columns and Crossings: the pass along the line. Orders, Flags, Looks, Placings, Thinnings and
--- Entrances: the line itself. Coordinates, Layers and Sweeps: from the pass to the counts of `hypervolume`. Keeping, Bounds,
--- Collections, Spreads and Updates: one more point.
+-- Entrances: the line itself. Coordinates, Layers and Sweeps: from the pass to the counts of `hypervolume`.
 pub mod Lists
 pub mod Placings
 pub mod Tallies
@@ -14,8 +13,3 @@ pub mod Crossings
 pub mod Coordinates
 pub mod Layers
 pub mod Sweeps
-pub mod Keeping
-pub mod Bounds
-pub mod Collections
-pub mod Spreads
-pub mod Updates

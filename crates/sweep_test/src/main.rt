@@ -159,7 +159,7 @@ fn agree(xs: &[u64], ys: &[u64], zs: &[u64], reference: Point, u: Point, out: &m
     if !right(xs, ys, zs, reference, origin, out) {
         return false;
     }
-    let gain = sweep::update(xs, ys, zs, u, reference, out);
+    let gain = corners::update(xs, ys, zs, u, reference, out);
     if gain != cells(xs, ys, zs, reference, u, 0, 0) {
         return false;
     }

@@ -1,11 +1,11 @@
 -- `axes` meets its contract.
 use Prim.Native.Nat.{_≤_}
 use native.Mathlib.Omega.{arith}
-use Rattle.sweep.specs.Limits.{axesWithin}
-use Rattle.sweep.proofs.Bounds.{test-few}
+use Rattle.corners.specs.Limits.{axesWithin}
+use Rattle.corners.proofs.Bounds.{test-few}
 use borrow.Author.Needs.{needs}
-use Rattle.sweep.proofs.limits.axes.Statement.{statement}
-use Rattle.sweep.proofs.limits.axes.Tie as tie
+use Rattle.corners.proofs.limits.axes.Statement.{statement}
+use Rattle.corners.proofs.limits.axes.Tie as tie
 
 array-read-at-most : tie.Need-array-read-at-most
 array-read-at-most c = search needs

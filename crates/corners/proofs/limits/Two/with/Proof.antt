@@ -1,8 +1,8 @@
 -- `Two::with` meets its contract.
 use borrow.Author.Tests.{le-leb, lt-leb}
-use Rattle.sweep.specs.Limits.{twoWith}
-use Rattle.sweep.proofs.limits.Two.with.Statement.{statement}
-use Rattle.sweep.proofs.limits.Two.with.Tie as tie
+use Rattle.corners.specs.Limits.{twoWith}
+use Rattle.corners.proofs.limits.Two.with.Statement.{statement}
+use Rattle.corners.proofs.limits.Two.with.Tie as tie
 
 returns : tie.Need-returns
 unfolding twoWith

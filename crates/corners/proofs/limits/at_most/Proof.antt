@@ -1,8 +1,8 @@
 -- `at_most` meets its contract, by the branch taken.
 use borrow.Author.Tests.{le-leb, lt-leb}
 use Rattle.hypervolume.specs.Cells.{holds}
-use Rattle.sweep.proofs.limits.at_most.Statement.{statement}
-use Rattle.sweep.proofs.limits.at_most.Tie as tie
+use Rattle.corners.proofs.limits.at_most.Statement.{statement}
+use Rattle.corners.proofs.limits.at_most.Tie as tie
 
 returns : tie.Need-returns
 unfolding holds

@@ -14,11 +14,11 @@ use Rattle.hypervolume.specs.Cells.{both, holds, dominates}
 use Rattle.hypervolume.specs.Counts.{cover}
 use Rattle.hypervolume.proofs.Tests.{Compared, below, above, compared, holds-le-one, both-true, both-intro}
 use Rattle.hypervolume.proofs.Dominance.{cover-append}
-use Rattle.sweep.specs.declared.limits.Two.{Two}
+use Rattle.corners.specs.declared.limits.Two.{Two}
 use Rattle.sweep.specs.Points.{points, Small}
-use Rattle.sweep.specs.Limits.{pickTwo, twoWith, axesWithin, offer, Alike, Limits}
+use Rattle.corners.specs.Limits.{pickTwo, twoWith, axesWithin, offer, Alike, Limits}
 use Rattle.sweep.proofs.Coordinates.{points-length, points-at}
 use Rattle.sweep.proofs.Sweeps.{three}
 
 -- A limit that is raised loses no point.
 raised-dominates : (p u : List ℕ) (a m n : ℕ) → m ≤ n → dominates p (set u a m) ≡ true → dominates p (set u a n) ≡ true

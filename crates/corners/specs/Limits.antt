@@ -7,8 +7,8 @@ use lib.Dec.{leb}
 use lib.ListN.{length, take, getD, set}
 use Rattle.hypervolume.specs.Cells.{holds, dominates, join}
 use Rattle.hypervolume.specs.Counts.{cover}
-use Rattle.sweep.specs.declared.limits.Two.{Two}
+use Rattle.corners.specs.declared.limits.Two.{Two}
 use Rattle.sweep.specs.Points.{points}
 
 abbrev pub pickTwo : Bool → Two → Two → Two
 pickTwo true a b = a

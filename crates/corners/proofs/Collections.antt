@@ -9,11 +9,11 @@ use native.Mathlib.Omega.{arith}
 use lib.ListN.{length, take, drop, getD, set, replicate, length-set, length-map, length-replicate}
 use lib.Seq.{take-suc, take-suc-set, length-take-le, drop-cons, set-at, getD-set-same, getD-set-other}
 use Rattle.hypervolume.specs.Cells.{dominates, join}
 use Rattle.sweep.specs.Points.{points}
-use Rattle.sweep.specs.Limits.{Alike, pick, kept, corners, Collecting, Raised, Stands, Collected}
+use Rattle.corners.specs.Limits.{Alike, pick, kept, corners, Collecting, Raised, Stands, Collected}
 use Rattle.sweep.proofs.Coordinates.{points-length, points-at}
 use Rattle.sweep.proofs.Sweeps.{three}
-use Rattle.sweep.proofs.Keeping.{corner-within}
+use Rattle.corners.proofs.Keeping.{corner-within}
 
 -- One more point.
 kept-more : (test : List ℕ → Bool) (trials : List (List ℕ)) (t : List ℕ) → kept test (trials ++ (t ∷ [])) ≡ kept test trials ++ pick (test t) t []

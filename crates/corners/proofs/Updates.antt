@@ -12,14 +12,14 @@ use lib.Seq.{take-at, take-all, length-take-le, getD-take, getD-drop, getD-appen
 use Rattle.hypervolume.specs.Cells.{dominates, join, edges}
 use Rattle.hypervolume.specs.Counts.{total, contribution, gain, contributions, joints}
 use Rattle.hypervolume.proofs.Counting.{joint-corner, gain-edges, Twice}
 use Rattle.sweep.specs.Points.{points, Small, Ascending, Ready}
-use Rattle.sweep.specs.Limits.{Alike, Limits, kept, corners, Raised, Stands, Collected, Spreading, spread}
+use Rattle.corners.specs.Limits.{Alike, Limits, kept, corners, Raised, Stands, Collected, Spreading, spread}
 use Rattle.sweep.proofs.Lists.{ascending-at, getD-mapped, front-then}
 use Rattle.sweep.proofs.Coordinates.{points-length, points-at}
 use Rattle.sweep.proofs.Sweeps.{three}
-use Rattle.sweep.proofs.Keeping.{kept-total, kept-contribution, rest-contribution, limit-twice}
-use Rattle.sweep.proofs.Collections.{corners-length, corner-at}
-use Rattle.sweep.proofs.Spreads.{Due, due-right, due-beyond, spread-length}
+use Rattle.corners.proofs.Keeping.{kept-total, kept-contribution, rest-contribution, limit-twice}
+use Rattle.corners.proofs.Collections.{corners-length, corner-at}
+use Rattle.corners.proofs.Spreads.{Due, due-right, due-beyond, spread-length}
 
 -- The joint contributions with u are the corners' contributions.
 corners-joints : (r u : List ℕ) (trials : List (List ℕ)) → contributions r (map (join u) trials) ≡ joints r trials u

@@ -1,14 +1,14 @@
 // Which corners an update counts. A corner may be left out where two that stay are at most it on all axes, and on real
 // archives nearly all may: those beyond a limit on some axis.
-use crate::number::larger;
 use hypervolume::Point;
+use sweep::larger;
 ghost use mathlib.Core.Path.{_≡_};
 ghost use mathlib.Core.List.{_++_};
 ghost use lib.Dec.{leb};
 ghost use lib.ListN.{length, drop, replicate};
 ghost use Rattle.hypervolume.specs.Cells.{both, holds};
 ghost use Rattle.sweep.specs.Points.{points, Small};
-ghost use Rattle.sweep.specs.Limits.{axesWithin, offer, twoWith, Alike, Limits, Collecting, Collected, Spreading, spread};
+ghost use Rattle.corners.specs.Limits.{axesWithin, offer, twoWith, Alike, Limits, Collecting, Collected, Spreading, spread};
 
 // The two least of the numbers passed.
 pub struct Two {

@@ -4,10 +4,10 @@ use mathlib.Core.Path.{_≡_}
 use native.Mathlib.Omega.{arith}
 use lib.ListN.{length}
 use borrow.Author.Count.{falls}
-use Rattle.sweep.proofs.Bounds.{axes-few, Bounding, bounding-none, bounding-skip, bounding-more, bounding-end}
+use Rattle.corners.proofs.Bounds.{axes-few, Bounding, bounding-none, bounding-skip, bounding-more, bounding-end}
 use borrow.Author.Needs.{needs}
-use Rattle.sweep.proofs.limits.limits.Statement.{statement}
-use Rattle.sweep.proofs.limits.limits.Tie as tie
+use Rattle.corners.proofs.limits.limits.Statement.{statement}
+use Rattle.corners.proofs.limits.limits.Tie as tie
 
 abbrev Inv-loop : tie.InvT-loop
 Inv-loop xs ys zs ux uy uz floor on-x₀ on-y₀ on-z₀ limit₀ i₀ on-x on-y on-z limit i = Bounding xs ys zs ux uy uz on-x on-y on-z limit i

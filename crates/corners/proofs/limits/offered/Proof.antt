@@ -1,9 +1,9 @@
 -- `offered` meets its contract, by the branches taken.
 use borrow.Author.Tests.{le-leb, lt-leb}
 use Rattle.hypervolume.specs.Cells.{both}
-use Rattle.sweep.specs.Limits.{offer}
-use Rattle.sweep.proofs.limits.offered.Statement.{statement}
-use Rattle.sweep.proofs.limits.offered.Tie as tie
+use Rattle.corners.specs.Limits.{offer}
+use Rattle.corners.proofs.limits.offered.Statement.{statement}
+use Rattle.corners.proofs.limits.offered.Tie as tie
 
 returns : tie.Need-returns
 unfolding both offer

@@ -4,9 +4,9 @@ use native.Mathlib.Omega.{arith}
 use lib.ListN.{length}
 use borrow.Author.Count.{falls}
 use borrow.Author.Needs.{needs}
-use Rattle.sweep.proofs.Spreads.{Spread, spread-none, spread-inside, spread-more, spread-end}
-use Rattle.sweep.proofs.limits.spread.Statement.{statement}
-use Rattle.sweep.proofs.limits.spread.Tie as tie
+use Rattle.corners.proofs.Spreads.{Spread, spread-none, spread-inside, spread-more, spread-end}
+use Rattle.corners.proofs.limits.spread.Statement.{statement}
+use Rattle.corners.proofs.limits.spread.Tie as tie
 
 abbrev Inv-loop : tie.InvT-loop
 Inv-loop counts places out₀ k₀ out k = Spread counts places out₀ out k

@@ -5,10 +5,10 @@ use native.Mathlib.Omega.{arith}
 use lib.ListN.{length}
 use borrow.Author.Count.{falls}
 use borrow.Author.Needs.{needs}
-use Rattle.sweep.proofs.Bounds.{axes-all, axes-not}
-use Rattle.sweep.proofs.Collections.{Gathering, gathering-none, gathering-skip, gathering-more, gathering-end}
-use Rattle.sweep.proofs.limits.collect.Statement.{statement}
-use Rattle.sweep.proofs.limits.collect.Tie as tie
+use Rattle.corners.proofs.Bounds.{axes-all, axes-not}
+use Rattle.corners.proofs.Collections.{Gathering, gathering-none, gathering-skip, gathering-more, gathering-end}
+use Rattle.corners.proofs.limits.collect.Statement.{statement}
+use Rattle.corners.proofs.limits.collect.Tie as tie
 
 abbrev Inv-loop : tie.InvT-loop
 Inv-loop xs ys zs limit kx₀ ky₀ kz₀ places₀ out₀ ux uy uz m₀ i₀ kx ky kz places out m i = Gathering xs ys zs limit kx₀ ky₀ kz₀ places₀ out₀ ux uy uz kx ky kz places out m i

@@ -11,7 +11,7 @@ use Rattle.hypervolume.proofs.Tests.{both-true}
 use Rattle.hypervolume.proofs.Dominance.{dominates-join, cover-append}
 use Rattle.hypervolume.proofs.Counting.{SameCover, total-same, contribution-same, Twice}
 use Rattle.hypervolume.proofs.Skips.{Spare, total-skips, contribution-skips, contribution-spare, Beyond, beyond, moved-corner}
-use Rattle.sweep.specs.Limits.{Limits, pick, kept}
+use Rattle.corners.specs.Limits.{Limits, pick, kept}
 
 -- The points that fail the test.
 abbrev rest : (List ℕ → Bool) → List (List ℕ) → List (List ℕ)

@@ -10,7 +10,7 @@ use lib.Dec.{eqb}
 use lib.ListN.{length, drop, getD, set, length-set, drop-of-length-le}
 use lib.Seq.{drop-cons, getD-set-same, getD-set-other}
 use Rattle.hypervolume.proofs.Tests.{Equated, same, differs, equated}
-use Rattle.sweep.specs.Limits.{Stands, Spreading, spread}
+use Rattle.corners.specs.Limits.{Stands, Spreading, spread}
 
 -- The loop: the whole is what has been put, with the rest.
 pub record Spread (counts places out left : List ℕ) (k : ℕ) : Type 0 where
