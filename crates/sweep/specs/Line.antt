@@ -79,6 +79,13 @@ pub record Kept (line : List ℕ) : Type 0 where
   pub rising : Rising 0 line
   pub flags : Flagged [] line
 
+-- A search for the place of a point at x: it lies among `size` entries from `low` on, or right behind them.
+pub record Between (line : List ℕ) (x low size : ℕ) : Type 0 where
+  pub rising : Rising 0 line
+  pub within : low + size ≤ length line
+  pub before : (k : ℕ) → k < low → xOf (getD line k 0) ≤ x
+  pub after : (k : ℕ) → low + size ≤ k → k < length line → x < xOf (getD line k 0)
+
 -- Where a point at x belongs: behind the entries that are at most x.
 pub record Ranked (line : List ℕ) (x at : ℕ) : Type 0 where
   pub within : at ≤ length line

@@ -8,7 +8,7 @@ ghost use Prim.Native.Nat.{ℕ, _+_, _≤_, _<_};
 ghost use lib.Dec.{leb};
 ghost use lib.ListN.{length, take};
 ghost use Rattle.hypervolume.specs.Cells.{holds};
-ghost use Rattle.sweep.specs.Line.{entryOf, flagged, xOf, yOf, indexOf, flagOf, Rising, Ranked};
+ghost use Rattle.sweep.specs.Line.{entryOf, flagged, xOf, yOf, indexOf, flagOf, Rising, Between, Ranked};
 ghost use Rattle.sweep.specs.Strips.{Standing};
 ghost use Rattle.sweep.specs.Entries.{pickEntry, Thinning, Walked, Placed, Closed, Entering, Entered};
 
@@ -65,17 +65,43 @@ fn reaches(entry: u64, x: u64) -> usize
     ((x + 4294967296 - entry / 4294967296) / 4294967296) as usize
 }
 
-// Where a point at x belongs: behind the entries that are at most x. The search halves what is left, whatever it finds.
+// What is left of a search: the place lies among `size` entries from `low` on, or right behind them.
+struct Range {
+    low: usize,
+    size: usize,
+}
+
+// Searches the place of a point at x until at most two entries are left. Three are asked at a time, so that no answer waits
+// for another, and as much is left whatever they say.
+fn narrow(line: &[u64], x: u64) -> Range
+    requires { ⌜ Rising 0 (now line) × (x ≤ 1048576) ⌝ }
+    ensures { λ r. ⌜ Between (now (line .entry)) x (r .low) (r .size) × (r .size ≤ 2) ⌝ }
+{
+    let mut low = 0;
+    let mut size = line.len();
+    while 2 < size {
+        let part = (size + 1) / 4;
+        let first = reaches(line[low + part - 1], x);
+        let second = reaches(line[low + 2 * part - 1], x);
+        let third = reaches(line[low + 3 * part - 1], x);
+        low += part * (first + second + third);
+        size -= 3 * part;
+    }
+    Range { low, size }
+}
+
+// Where a point at x belongs: behind the entries that are at most x.
 pub fn rank(line: &[u64], x: u64) -> usize
     requires { ⌜ Rising 0 (now line) × (x ≤ 1048576) ⌝ }
     ensures { λ r. ⌜ Ranked (now (line .entry)) x r ⌝ }
 {
-    let mut low = 0;
-    let mut size = line.len();
-    while 0 < size {
-        let half = (size + 1) / 2;
-        low += half * reaches(line[low + half - 1], x);
-        size -= half;
+    let range = narrow(line, x);
+    let low = range.low;
+    if range.size == 2 {
+        return low + reaches(line[low], x) + reaches(line[low + 1], x);
+    }
+    if range.size == 1 {
+        return low + reaches(line[low], x);
     }
     low
 }

@@ -1,77 +1,84 @@
--- `rank` meets its contract. The invariant: the place lies among the `size` entries from `low` on, or right behind them.
-use Prim.Native.Nat.{_+_, _*_, _/_, _≤_}
-use mathlib.Core.Path.{refl}
+-- `rank` meets its contract: the entries that are left say the rest.
+use mathlib.Core.Path.{_≡_}
 use native.Mathlib.Omega.{arith}
-use Rattle.sweep.proofs.Orders.{Between, between-all, between-half, between-place, between-none}
+use Rattle.sweep.proofs.Orders.{bit-small, between-one, between-two, between-none}
 use borrow.Author.Needs.{needs}
 use Rattle.sweep.proofs.line.rank.Statement.{statement}
 use Rattle.sweep.proofs.line.rank.Tie as tie
 
-abbrev Inv-loop : tie.InvT-loop
-Inv-loop line x low₀ size₀ low size = Between line x low size
+narrow-requires : tie.Need-narrow-requires
+narrow-requires c κs = search needs
 
-abbrev μ-loop : tie.MeasureT-loop
-μ-loop line x low₀ size₀ low size = size
-
-loop-holds : tie.Need-loop-holds Inv-loop μ-loop
-loop-holds c = between-all _ _ (c .before .pre .0)
-
-add-half : tie.Need-add-half Inv-loop μ-loop
-add-half c = search needs
-
-add-reaches : tie.Need-add-reaches Inv-loop μ-loop
-add-reaches c = search needs
-
-sub-reaches : tie.Need-sub-reaches Inv-loop μ-loop
-sub-reaches c = search needs
-
-mul-reaches : tie.Need-mul-reaches Inv-loop μ-loop
+mul-reaches : tie.Need-mul-reaches
 mul-reaches c = search needs
 
-shared-slice-read-reaches : tie.Need-shared-slice-read-reaches Inv-loop μ-loop
+shared-slice-read-reaches : tie.Need-shared-slice-read-reaches
 shared-slice-read-reaches c = search needs
 
-reaches-requires : tie.Need-reaches-requires Inv-loop μ-loop
+reaches-requires : tie.Need-reaches-requires
 reaches-requires c κs = search needs
 
--- the search moves on by at most half
-part : (c : tie.After-reaches Inv-loop μ-loop) → (c .before .before .before .loop .size + 1) / 2 * c .reaches .result ≤ (c .before .before .before .loop .size + 1) / 2
-part c = between-place (c .before .before .before .loop .inv) (c .before .before .loop-test .taken) refl (c .reaches .ensures)
+add-result : tie.Need-add-result
+add-result c = record { fits = omega (arith, bit-small _ (c .reaches .ensures), c .before .before .before .before .narrow .ensures .0 .within) }
 
-mul-low : tie.Need-mul-low Inv-loop μ-loop
-mul-low c = record { fits = omega (arith, part c, c .before .before .before .loop .inv .within) }
+add-reaches : tie.Need-add-reaches
+add-reaches c = search needs
 
-add-low : tie.Need-add-low Inv-loop μ-loop
-add-low c = record { fits = omega (arith, part c, c .before .before .before .loop .inv .within) }
+mul-reaches-2 : tie.Need-mul-reaches-2
+mul-reaches-2 c = search needs
 
-sub-size : tie.Need-sub-size Inv-loop μ-loop
-sub-size c = search needs
+shared-slice-read-reaches-2 : tie.Need-shared-slice-read-reaches-2
+shared-slice-read-reaches-2 c = search needs
 
-loop-less : tie.Need-loop-less Inv-loop μ-loop
-loop-less c = search needs
+reaches-requires-2 : tie.Need-reaches-requires-2
+reaches-requires-2 c κs = search needs
 
-loop-again : tie.Need-loop-again Inv-loop μ-loop
-loop-again c = between-half (c .before .before .before .loop .inv) (c .before .before .loop-test .taken) refl (c .reaches .ensures)
+add-result-2 : tie.Need-add-result-2
+add-result-2 c = record { fits = omega (arith, bit-small _ (c .before .before .reaches .ensures), bit-small _ (c .reaches2 .ensures), c .before .before .before .before .before .before .narrow .ensures .0 .within) }
 
-returns : tie.Need-returns Inv-loop μ-loop
-returns c = between-none (c .before .loop .inv) (c .loop-test .left)
+returns : tie.Need-returns
+returns c = between-none (between-two (c .before .before .before .before .before .before .narrow .ensures .0) (c .before .before .before .before .if1 .taken) (c .before .before .reaches .ensures) (c .reaches2 .ensures)) (omega arith)
+
+mul-reaches-3 : tie.Need-mul-reaches-3
+mul-reaches-3 c = search needs
+
+shared-slice-read-reaches-3 : tie.Need-shared-slice-read-reaches-3
+shared-slice-read-reaches-3 c = search needs
+
+reaches-requires-3 : tie.Need-reaches-requires-3
+reaches-requires-3 c κs = search needs
+
+add-result-3 : tie.Need-add-result-3
+add-result-3 c = record { fits = omega (arith, bit-small _ (c .reaches3 .ensures), c .before .before .before .before .before .before .narrow .ensures .0 .within) }
+
+returns-2 : tie.Need-returns-2
+returns-2 c = between-none (between-one (c .before .before .before .before .before .before .narrow .ensures .0) (c .before .before .if2 .taken) (c .reaches3 .ensures)) (omega arith)
+
+returns-3 : tie.Need-returns-3
+returns-3 c =
+    let found = c .before .before .before .before in
+    let not-two : found .narrow .result .size ≡ 2 → ⊥ = c .before .before .if1 .left in
+    let not-one : found .narrow .result .size ≡ 1 → ⊥ = c .if2 .left in
+    between-none (found .narrow .ensures .0) (omega (arith, found .narrow .ensures .1))
 
 pub rank-spec : {M : Type 1} → statement M
 rank-spec =
     tie.close
     (tie.spec
-    Inv-loop
-    μ-loop
-    loop-holds
-    add-half
-    add-reaches
-    sub-reaches
+    narrow-requires
     mul-reaches
     shared-slice-read-reaches
     reaches-requires
-    mul-low
-    add-low
-    sub-size
-    loop-less
-    loop-again
-    returns)
+    add-result
+    add-reaches
+    mul-reaches-2
+    shared-slice-read-reaches-2
+    reaches-requires-2
+    add-result-2
+    returns
+    mul-reaches-3
+    shared-slice-read-reaches-3
+    reaches-requires-3
+    add-result-3
+    returns-2
+    returns-3)
