@@ -1,17 +1,21 @@
 -- Collecting the corners within a limit.
-use Prim.Native.Nat.{ℕ, zero, suc, _+_, _≤_, _<_, max}
+use Prim.Native.Nat.{ℕ, zero, suc, _+_, _-_, _≤_, _<_, max}
 use mathlib.Core.Path.{_≡_, refl, sym, ap, _∙_}
 use mathlib.Core.Bool.{Bool, true, false}
-use mathlib.Core.List.{List, [], _∷_, _++_, map, append-nil}
+use mathlib.Core.List.{List, [], _∷_, _++_, map, append-nil, append-assoc}
 use native.Mathlib.Decide.{decLe}
 use native.Mathlib.Numerals.{add-one}
 use native.Mathlib.Omega.{arith}
-use lib.ListN.{length, take, drop, getD, set, replicate, length-set, length-map, length-replicate}
-use lib.Seq.{take-suc, take-suc-set, length-take-le, drop-cons, set-at, getD-set-same, getD-set-other}
-use Rattle.hypervolume.specs.Cells.{dominates, join}
+use lib.ListN.{length, take, drop, getD, set, replicate, length-append, length-drop, length-set, length-map, length-replicate, take-append-drop, replicate-append-replicate}
+use lib.Seq.{take-suc, take-suc-set, take-all, take-at, length-take-le, drop-cons, drop-at, drop-drop, set-at, getD-drop, getD-set-same, getD-set-other}
+use lib.Dec.{leb}
+use borrow.Author.Tests.{lt-leb}
+use Rattle.hypervolume.specs.Cells.{both, dominates, join}
+use Rattle.hypervolume.proofs.Tests.{both-comm}
 use Rattle.sweep.specs.Points.{points}
 use Rattle.corners.specs.Limits.{Alike, pick, kept, corners, Collecting, Raised, Stands, Collected}
 use Rattle.sweep.proofs.Coordinates.{points-length, points-at}
+use Rattle.sweep.proofs.Lists.{ascending-at}
 use Rattle.sweep.proofs.Sweeps.{three}
 use Rattle.corners.proofs.Keeping.{corner-within}
 
@@ -98,14 +102,75 @@ raised-more u src places ks m i v h p q e k l = go (decLe (suc k) m)
         rw (last, getD-set-same ks m v 0 q, getD-set-same places m i 0 p) e
 
 -- One more count cleared.
+further : (n v : ℕ) (rest : List ℕ) → replicate n v ++ (v ∷ rest) ≡ replicate (suc n) v ++ rest
+further zero v rest = refl
+further (suc n) v rest = ap (λ l. v ∷ l) (further n v rest)
+
 cleared-more : (i : ℕ) (old out : List ℕ) → i < length old → out ≡ replicate i 0 ++ drop i old → set out i 0 ≡ replicate (i + 1) 0 ++ drop (i + 1) old
 cleared-more i old out l e =
     rw (e, drop-cons old i 0 l, add-one i, set-at (replicate i 0) (getD old i 0) (drop (suc i) old) 0 i (length-replicate i 0))
     (further i 0 (drop (suc i) old))
+
+-- The loop of clear.
+pub record Clearing (old : List ℕ) (from to : ℕ) (out : List ℕ) (i : ℕ) : Type 0 where
+  pub begun : from ≤ i
+  pub within : i ≤ to
+  pub room : to ≤ length old
+  pub long : length out ≡ length old
+  pub is : out ≡ take from old ++ (replicate (i - from) 0 ++ drop i old)
+
+pub clearing-none : (old : List ℕ) (from to : ℕ) → from ≤ to → to ≤ length old → Clearing old from to old from
+clearing-none old from to l m =
+    let none : from - from ≡ 0 = omega arith in
+    record {
+      begun = omega arith;
+      within = l;
+      room = m;
+      long = refl;
+      is = rw none (sym (take-append-drop from old));
+    }
+
+pub clearing-more : {old : List ℕ} {from to : ℕ} {out : List ℕ} {i : ℕ} → Clearing old from to out i → i < to → Clearing old from to (set out i 0) (i + 1)
+clearing-more {old} {from} {to} {out} {i} h l =
+    record {
+      begun = omega (arith, h .begun);
+      within = omega arith;
+      room = h .room;
+      long = length-set out i 0 ∙ h .long;
+      is = is;
+    }
   where
-    further : (n v : ℕ) (rest : List ℕ) → replicate n v ++ (v ∷ rest) ≡ replicate (suc n) v ++ rest
-    further zero v rest = refl
-    further (suc n) v rest = ap (λ l. v ∷ l) (further n v rest)
+    n : ℕ
+    n = i - from
+
+    more : i + 1 - from ≡ suc n
+    more = omega (arith, h .begun)
+
+    first : List ℕ
+    first = take from old ++ replicate n 0
+
+    first-long : length first ≡ i
+    first-long =
+        length-append (take from old) (replicate n 0)
+        ∙ rw (length-take-le from old (omega (arith, h .begun, h .room)), length-replicate {A = ℕ} n 0) (omega (arith, h .begun))
+
+    before : out ≡ first ++ (getD old i 0 ∷ drop (suc i) old)
+    before =
+        h .is
+        ∙ rw (drop-cons old i 0 (omega (arith, h .room)))
+        (sym (append-assoc (take from old) (replicate n 0) (getD old i 0 ∷ drop (suc i) old)))
+
+    is : set out i 0 ≡ take from old ++ (replicate (i + 1 - from) 0 ++ drop (i + 1) old)
+    is =
+        ap (λ o. set o i 0) before
+        ∙ set-at first (getD old i 0) (drop (suc i) old) 0 i first-long
+        ∙ append-assoc (take from old) (replicate n 0) (0 ∷ drop (suc i) old)
+        ∙ rw (more, add-one i) (ap (λ r. take from old ++ r) (further n 0 (drop (suc i) old)))
+
+pub clearing-end : {old : List ℕ} {from to : ℕ} {out : List ℕ} {i : ℕ} → Clearing old from to out i → to ≤ i → out ≡ take from old ++ (replicate (to - from) 0 ++ drop to old)
+clearing-end {old} {from} {to} {out} {i} h l =
+    let end : i ≡ to = omega (arith, h .within) in
+    rw end at (h .is)
 
 -- A turn.
 module _ {xs ys zs limit kx₀ ky₀ kz₀ places₀ out₀ : List ℕ} {ux uy uz : ℕ} {kx ky kz places out : List ℕ} {m i : ℕ} (h : Gathering xs ys zs limit kx₀ ky₀ kz₀ places₀ out₀ ux uy uz kx ky kz places out m i) (l : i < length xs) where
@@ -243,3 +308,88 @@ pub gathering-end : {xs ys zs limit kx₀ ky₀ kz₀ places₀ out₀ kx ky kz 
 gathering-end {xs} {i = i} u e h l =
     let whole : i ≡ length xs = omega (arith, h .within) in
     (rw (three u e, whole) at (h .collected), rw whole at (h .cleared))
+
+-- Past the limit on z.
+kept-append : (test : List ℕ → Bool) (s t : List (List ℕ)) → kept test (s ++ t) ≡ kept test s ++ kept test t
+unfolding kept
+kept-append test [] t = refl
+kept-append test (a ∷ s) t = go (test a) (kept-append test s t)
+  where
+    go : (b : Bool) → kept test (s ++ t) ≡ kept test s ++ kept test t → pick b a (kept test (s ++ t)) ≡ pick b a (kept test s) ++ kept test t
+    go true e = ap (λ l. a ∷ l) e
+    go false e = e
+
+kept-none : (test : List ℕ → Bool) (t : List (List ℕ)) → ((j : ℕ) → j < length t → test (getD t j []) ≡ false) → kept test t ≡ []
+unfolding kept
+kept-none test [] h = refl
+kept-none test (a ∷ t) h = rw (h 0 (omega arith)) (kept-none test t (λ j l. h (suc j) (omega arith)))
+
+past : (x y z : ℕ) (limit : List ℕ) → length limit ≡ 3 → getD limit 2 0 < z → dominates (x ∷ y ∷ z ∷ []) limit ≡ false
+unfolding dominates both
+past x y z limit e l =
+    rw (← (three limit e), lt-leb z (getD limit 2 0) l, both-comm (leb y (getD limit 1 0)) false)
+    (both-comm (leb x (getD limit 0 0)) false)
+
+module _ {xs ys zs limit kx₀ ky₀ kz₀ places₀ out₀ : List ℕ} {ux uy uz : ℕ} {kx ky kz places out : List ℕ} {m i : ℕ} (h : Gathering xs ys zs limit kx₀ ky₀ kz₀ places₀ out₀ ux uy uz kx ky kz places out m i) (three-long : length limit ≡ 3) (l : i < length xs) (beyond : getD limit 2 0 < getD zs i 0) where
+  none-within : (j : ℕ) → i ≤ j → j < length xs → dominates (getD (corners (ux ∷ uy ∷ uz ∷ []) xs ys zs) j []) limit ≡ false
+  none-within j n o =
+      let later : getD zs i 0 ≤ getD zs j 0 = ascending-at zs (h .asked .rising) i j n (omega (arith, h .asked .alike .zs-many)) in
+      rw (corner-at (ux ∷ uy ∷ uz ∷ []) (h .asked .alike) j o, corner-within (ux ∷ uy ∷ uz ∷ []) (getD xs j 0 ∷ getD ys j 0 ∷ getD zs j 0 ∷ []) limit (h .asked .above))
+      (past (getD xs j 0) (getD ys j 0) (getD zs j 0) limit three-long (omega arith))
+
+  abbrev all′ : List (List ℕ)
+  all′ = corners (ux ∷ uy ∷ uz ∷ []) xs ys zs
+
+  long′ : length all′ ≡ length xs
+  long′ = corners-length (ux ∷ uy ∷ uz ∷ []) (h .asked .alike)
+
+  none-behind : kept (λ t. dominates t limit) (take (length xs) all′) ≡ kept (λ t. dominates t limit) (take i all′)
+  none-behind =
+      let nothing : kept (λ t. dominates t limit) (drop i all′) ≡ [] =
+      kept-none (λ t. dominates t limit) (drop i all′)
+      (λ j n.
+      rw (getD-drop i all′ j [])
+      (none-within (i + j) (omega arith) (omega (arith, length-drop i all′, long′)))) in
+      ap (kept (λ t. dominates t limit)) (take-all (length xs) all′ (omega (arith, long′)) ∙ sym (take-append-drop i all′))
+      ∙ kept-append (λ t. dominates t limit) (take i all′) (drop i all′)
+      ∙ rw nothing (append-nil (kept (λ t. dominates t limit) (take i all′)))
+
+  stopped : Collected xs ys zs (ux ∷ uy ∷ uz ∷ []) limit (length xs) kx ky kz places m
+  stopped =
+      let old′ = h .collected in
+      record {
+        few = omega (arith, old′ .few);
+        all = old′ .all ∙ sym none-behind;
+        x = old′ .x;
+        y = old′ .y;
+        z = old′ .z;
+        inside = λ k q. omega (arith, old′ .inside k q);
+        rising = old′ .rising;
+        every = λ j q d. every j q d (decLe (suc j) i);
+      }
+    where
+      every : (j : ℕ) → j < length xs → dominates (getD all′ j []) limit ≡ true → Dec (j < i) → Stands places m j
+      every j q d (yes a) = h .collected .every j a d
+      every j q d (no a) =
+          let never : false ≡ true = sym (none-within j (omega arith) q) ∙ d in
+          absurd (let z : _≡_ {A = ℕ} 0 1 = cc in omega arith)
+
+  cleared-all : {out′ : List ℕ} → out′ ≡ take i out ++ (replicate (length xs - i) 0 ++ drop (length xs) out) → out′ ≡ replicate (length xs) 0 ++ drop (length xs) out₀
+  cleared-all {out′} e =
+      let first : take i out ≡ replicate i 0 =
+      ap (take i) (h .cleared) ∙ take-at (replicate i 0) (drop i out₀) i (length-replicate {A = ℕ} i 0) in
+      let split : length xs ≡ i + (length xs - i) = omega arith in
+      let behind : drop (length xs) out ≡ drop (length xs) out₀ =
+      ap (λ k. drop k out) split
+      ∙ sym (drop-drop (length xs - i) i out)
+      ∙ ap (drop (length xs - i)) (ap (drop i) (h .cleared) ∙ drop-at (replicate i 0) (drop i out₀) i (length-replicate {A = ℕ} i 0))
+      ∙ drop-drop (length xs - i) i out₀
+      ∙ ap (λ k. drop k out₀) (sym split) in
+      let zeros : replicate {A = ℕ} i 0 ++ replicate (length xs - i) 0 ≡ replicate (length xs) 0 =
+      replicate-append-replicate i (length xs - i) 0 ∙ ap (λ k. replicate k 0) (sym split) in
+      e
+      ∙ rw (first, behind) (sym (append-assoc (replicate i 0) (replicate (length xs - i) 0) (drop (length xs) out₀)))
+      ∙ ap (λ r. r ++ drop (length xs) out₀) zeros
+
+pub gathering-stop : {xs ys zs limit kx₀ ky₀ kz₀ places₀ out₀ kx ky kz places out out′ : List ℕ} {m i : ℕ} (u : List ℕ) → length u ≡ 3 → length limit ≡ 3 → Gathering xs ys zs limit kx₀ ky₀ kz₀ places₀ out₀ (getD u 0 0) (getD u 1 0) (getD u 2 0) kx ky kz places out m i → i < length xs → getD limit 2 0 < getD zs i 0 → out′ ≡ take i out ++ (replicate (length xs - i) 0 ++ drop (length xs) out) → Collected xs ys zs u limit (length xs) kx ky kz places m × (out′ ≡ replicate (length xs) 0 ++ drop (length xs) out₀)
+gathering-stop u e f h l b c = (rw (three u e) at (stopped h f l b), cleared-all h f l b c)

@@ -8,7 +8,7 @@ use lib.ListN.{length, take, getD, set}
 use Rattle.hypervolume.specs.Cells.{holds, dominates, join}
 use Rattle.hypervolume.specs.Counts.{cover}
 use Rattle.corners.specs.declared.limits.Two.{Two}
-use Rattle.sweep.specs.Points.{points}
+use Rattle.sweep.specs.Points.{points, Ascending}
 
 abbrev pub pickTwo : Bool → Two → Two → Two
 pickTwo true a b = a
@@ -54,10 +54,11 @@ kept test (t ∷ trials) = pick (test t) t (kept test trials)
 abbrev pub corners : List ℕ → List ℕ → List ℕ → List ℕ → List (List ℕ)
 corners u xs ys zs = map (join u) (points xs ys zs)
 
--- What collecting the corners within a limit asks: room for all.
+-- What collecting the corners within a limit asks: points in ascending order of z, and room for all.
 pub record Collecting (xs ys zs u limit kx ky kz places out : List ℕ) : Type 0 where
   pub few : length xs ≤ 512
   pub alike : Alike xs ys zs
+  pub rising : Ascending zs
   pub above : dominates u limit ≡ true
   pub kx-room : length xs ≤ length kx
   pub ky-room : length xs ≤ length ky

@@ -5,7 +5,8 @@ use sweep::larger;
 ghost use mathlib.Core.Path.{_≡_};
 ghost use mathlib.Core.List.{_++_};
 ghost use lib.Dec.{leb};
-ghost use lib.ListN.{length, drop, replicate};
+ghost use Prim.Native.Nat.{_-_, _≤_};
+ghost use lib.ListN.{length, take, drop, replicate};
 ghost use Rattle.hypervolume.specs.Cells.{both, holds};
 ghost use Rattle.sweep.specs.Points.{points, Small};
 ghost use Rattle.corners.specs.Limits.{axesWithin, offer, twoWith, Alike, Limits, Collecting, Collected, Spreading, spread};
@@ -106,8 +107,21 @@ pub fn limits(xs: &[u64], ys: &[u64], zs: &[u64], u: Point) -> [u64; 3]
     limit
 }
 
+// Clears the counts from `from` up to `to`.
+fn clear(out: &mut [u64], from: usize, to: usize)
+    requires { ⌜ (from ≤ to) × (to ≤ length (now out)) ⌝ }
+    ensures { λ _. ⌜ now (out .exit) ≡ take from (now (out .entry)) ++ (replicate (to - from) 0 ++ drop to (now (out .entry))) ⌝ }
+{
+    let mut i = from;
+    while i < to {
+        out[i] = 0;
+        i += 1;
+    }
+}
+
 // The corners within the limit, in their order: how many, their coordinates, and in `places` where their points stand.
-// Every count in `out` becomes 0, which is what the corners left out have. (A place takes 16 bits, to save stack.)
+// Every count in `out` becomes 0, which is what the corners left out have. The points
+// ascend on z, so past the limit on z none is within. (A place takes 16 bits, to save stack.)
 pub fn collect(
     xs: &[u64],
     ys: &[u64],
@@ -133,6 +147,10 @@ pub fn collect(
         let x = xs[i];
         let y = ys[i];
         let z = zs[i];
+        if limit[2] < z {
+            clear(out, i, xs.len());
+            return m;
+        }
         out[i] = 0;
         if axes(x, y, z, limit) == 3 {
             kx[m] = larger(ux, x);

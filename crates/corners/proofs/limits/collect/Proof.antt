@@ -4,17 +4,17 @@ use mathlib.Core.Path.{_≡_}
 use native.Mathlib.Omega.{arith}
 use lib.ListN.{length}
 use borrow.Author.Count.{falls}
-use borrow.Author.Needs.{needs}
 use Rattle.corners.proofs.Bounds.{axes-all, axes-not}
-use Rattle.corners.proofs.Collections.{Gathering, gathering-none, gathering-skip, gathering-more, gathering-end}
+use Rattle.corners.proofs.Collections.{Gathering, gathering-none, gathering-skip, gathering-more, gathering-stop, gathering-end}
+use borrow.Author.Needs.{needs}
 use Rattle.corners.proofs.limits.collect.Statement.{statement}
 use Rattle.corners.proofs.limits.collect.Tie as tie
 
 abbrev Inv-loop : tie.InvT-loop
-Inv-loop xs ys zs limit kx₀ ky₀ kz₀ places₀ out₀ ux uy uz m₀ i₀ kx ky kz places out m i = Gathering xs ys zs limit kx₀ ky₀ kz₀ places₀ out₀ ux uy uz kx ky kz places out m i
+Inv-loop xs ys zs kx₀ ky₀ kz₀ places₀ out₀ limit ux uy uz m₀ i₀ kx ky kz places out m i = Gathering xs ys zs limit kx₀ ky₀ kz₀ places₀ out₀ ux uy uz kx ky kz places out m i
 
 abbrev μ-loop : tie.MeasureT-loop
-μ-loop xs ys zs limit kx₀ ky₀ kz₀ places₀ out₀ ux uy uz m₀ i₀ kx ky kz places out m i = length xs - i
+μ-loop xs ys zs kx₀ ky₀ kz₀ places₀ out₀ limit ux uy uz m₀ i₀ kx ky kz places out m i = length xs - i
 
 element-copy-out-ux : tie.Need-element-copy-out-ux Inv-loop μ-loop
 element-copy-out-ux c = search needs
@@ -37,7 +37,7 @@ cast-uz c = search needs
 length-u : (c : tie.Start Inv-loop μ-loop) → length (c .args .t4 .at) ≡ 3
 length-u c = search needs
 
-length-limit : (c : tie.Start Inv-loop μ-loop) → length (c .args .limit) ≡ 3
+length-limit : (c : tie.Start Inv-loop μ-loop) → length (c .args .t5) ≡ 3
 length-limit c = search needs
 
 loop-holds : tie.Need-loop-holds Inv-loop μ-loop
@@ -60,6 +60,37 @@ mul-z c = search needs
 
 shared-slice-read-z : tie.Need-shared-slice-read-z Inv-loop μ-loop
 shared-slice-read-z c = search needs
+
+array-read-if1 : tie.Need-array-read-if1 Inv-loop μ-loop
+array-read-if1 c = search needs
+
+abbrev start : tie.In-loop Inv-loop μ-loop → tie.Start Inv-loop μ-loop
+start c = c .before .before .before .before .before .before .before .before .before .before .before .before .before
+
+clear-requires : tie.Need-clear-requires Inv-loop μ-loop
+clear-requires c κs = search needs
+
+same-length : tie.Need-same-length Inv-loop μ-loop
+same-length c = search needs
+
+same-length-2 : tie.Need-same-length-2 Inv-loop μ-loop
+same-length-2 c = search needs
+
+same-length-3 : tie.Need-same-length-3 Inv-loop μ-loop
+same-length-3 c = search needs
+
+same-length-4 : tie.Need-same-length-4 Inv-loop μ-loop
+same-length-4 c = search needs
+
+same-length-5 : tie.Need-same-length-5 Inv-loop μ-loop
+same-length-5 c = search needs
+
+returns : tie.Need-returns Inv-loop μ-loop
+returns c =
+    let cleared = c .before .before in
+    let past = cleared .before .before in
+    let turn = past .before .before .before .before in
+    gathering-stop _ (length-u (start turn)) (length-limit (start turn)) (turn .before .loop .inv) (turn .loop-test .taken) (past .if1 .taken) (cleared .clear .ensures)
 
 mul-out : tie.Need-mul-out Inv-loop μ-loop
 mul-out c = search needs
@@ -99,7 +130,7 @@ slice-write-kz c = search needs
 
 cast-places : tie.Need-cast-places Inv-loop μ-loop
 cast-places c =
-    let turn = c .before .before .before .before .before .before .before .before in
+    let turn = c .before .before .before .before .before .before .before .before .before in
     omega (arith, turn .before .loop .inv .asked .few, turn .loop-test .taken)
 
 mul-places : tie.Need-mul-places Inv-loop μ-loop
@@ -115,45 +146,45 @@ add-i : tie.Need-add-i Inv-loop μ-loop
 add-i c = search needs
 
 loop-less : tie.Need-loop-less Inv-loop μ-loop
-loop-less c = falls _ _ (c .before .before .before .before .before .before .before .before .loop-test .taken)
+loop-less c = falls _ _ (c .before .before .before .before .before .before .before .before .before .loop-test .taken)
 
 loop-again : tie.Need-loop-again Inv-loop μ-loop
 loop-again c =
     let tested = c .before .before .before .before in
-    let turn = tested .before .before .before .before in
+    let turn = tested .before .before .before .before .before in
     gathering-more (turn .before .loop .inv) (turn .loop-test .taken)
-    (axes-all _ _ _ _ (length-limit (turn .before .before .before .before .before .before .before .before .before .before .before .before .before)) (tested .axes .ensures) (c .before .before .before .if1 .taken))
+    (axes-all _ _ _ _ (length-limit (start turn)) (tested .axes .ensures) (c .before .before .before .if2 .taken))
     (c .before .before .larger .ensures) (c .before .larger2 .ensures) (c .larger3 .ensures)
 
 add-i-2 : tie.Need-add-i-2 Inv-loop μ-loop
 add-i-2 c = search needs
 
 loop-less-2 : tie.Need-loop-less-2 Inv-loop μ-loop
-loop-less-2 c = falls _ _ (c .before .before .before .before .before .loop-test .taken)
+loop-less-2 c = falls _ _ (c .before .before .before .before .before .before .loop-test .taken)
 
 loop-again-2 : tie.Need-loop-again-2 Inv-loop μ-loop
 loop-again-2 c =
-    let turn = c .before .before .before .before .before in
+    let turn = c .before .before .before .before .before .before in
     gathering-skip (turn .before .loop .inv) (turn .loop-test .taken)
-    (axes-not _ _ _ _ (length-limit (turn .before .before .before .before .before .before .before .before .before .before .before .before .before)) (c .before .axes .ensures) (c .if1 .left))
+    (axes-not _ _ _ _ (length-limit (start turn)) (c .before .axes .ensures) (c .if2 .left))
 
-same-length : tie.Need-same-length Inv-loop μ-loop
-same-length c = search needs
+same-length-6 : tie.Need-same-length-6 Inv-loop μ-loop
+same-length-6 c = search needs
 
-same-length-2 : tie.Need-same-length-2 Inv-loop μ-loop
-same-length-2 c = search needs
+same-length-7 : tie.Need-same-length-7 Inv-loop μ-loop
+same-length-7 c = search needs
 
-same-length-3 : tie.Need-same-length-3 Inv-loop μ-loop
-same-length-3 c = search needs
+same-length-8 : tie.Need-same-length-8 Inv-loop μ-loop
+same-length-8 c = search needs
 
-same-length-4 : tie.Need-same-length-4 Inv-loop μ-loop
-same-length-4 c = search needs
+same-length-9 : tie.Need-same-length-9 Inv-loop μ-loop
+same-length-9 c = search needs
 
-same-length-5 : tie.Need-same-length-5 Inv-loop μ-loop
-same-length-5 c = search needs
+same-length-10 : tie.Need-same-length-10 Inv-loop μ-loop
+same-length-10 c = search needs
 
-returns : tie.Need-returns Inv-loop μ-loop
-returns c = gathering-end _ (length-u (c .before .before .before .before .before .before .before .before .before .before .before .before .before)) (c .before .loop .inv) (c .loop-test .left)
+returns-2 : tie.Need-returns-2 Inv-loop μ-loop
+returns-2 c = gathering-end _ (length-u (c .before .before .before .before .before .before .before .before .before .before .before .before .before)) (c .before .loop .inv) (c .loop-test .left)
 
 pub collect-spec : {M : Type 1} → statement M
 collect-spec =
@@ -174,6 +205,14 @@ collect-spec =
     shared-slice-read-y
     mul-z
     shared-slice-read-z
+    array-read-if1
+    clear-requires
+    same-length
+    same-length-2
+    same-length-3
+    same-length-4
+    same-length-5
+    returns
     mul-out
     slice-write-out
     axes-requires
@@ -196,9 +235,9 @@ collect-spec =
     add-i-2
     loop-less-2
     loop-again-2
-    same-length
-    same-length-2
-    same-length-3
-    same-length-4
-    same-length-5
-    returns)
+    same-length-6
+    same-length-7
+    same-length-8
+    same-length-9
+    same-length-10
+    returns-2)
