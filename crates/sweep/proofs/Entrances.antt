@@ -1,20 +1,19 @@
 -- The next point enters the line: it goes in behind the entries that are at most it on x, with its flag, or two entries cover
 -- it and it is left out.
-use Prim.Native.Nat.{ℕ, suc, _+_, _-_, _≤_, _<_, min}
+use Prim.Native.Nat.{ℕ, _+_, _-_, _≤_, _<_}
 use mathlib.Core.Path.{_≡_, refl, sym, ap, _∙_}
 use mathlib.Core.Bool.{Bool, true, false}
 use mathlib.Core.List.{List, [], _∷_, _++_, append-assoc}
 use native.Mathlib.Nat.{zero-add}
-use native.Mathlib.Numerals.{add-one}
 use native.Mathlib.Omega.{arith}
 use lib.Dec.{leb, eqb}
-use lib.ListN.{length, take, drop, getD, length-append, length-take, length-drop, take-append-drop}
+use lib.ListN.{length, take, drop, getD}
 use lib.Seq.{length-take-le, getD-take, take-at, drop-at, drop-drop}
 use borrow.Author.Tests.{leb-true}
 use Rattle.hypervolume.specs.Cells.{both, holds, dominates}
 use Rattle.hypervolume.proofs.Tests.{Compared, below, above, compared, both-true, both-comm}
 use Rattle.sweep.specs.declared.column.Column.{Column}
-use Rattle.sweep.specs.Line.{tally, flagged, spot, xOf, yOf, indexOf, flagOf, over, overBy, low, Rising, FlagRight, Flagged, Kept, Ranked, AlikeAt, insertAt}
+use Rattle.sweep.specs.Line.{tally, flagged, spot, xOf, yOf, indexOf, over, overBy, low, Rising, FlagRight, Flagged, AlikeAt, insertAt}
 use Rattle.sweep.specs.Strips.{Standing}
 use Rattle.sweep.specs.Entries.{pickEntry, Below, Thinned, Thinning, Walked, Placed, Closed, Entering, Entered}
 use Rattle.sweep.proofs.Tallies.{tally-append, tally-le}
@@ -55,15 +54,6 @@ same-picked true w = record { x = omega arith; y = omega arith; index = omega ar
 same-picked false w = record { x = refl; y = refl; index = refl }
 
 module _ {line : List ℕ} {m at next : ℕ} (asked : Entering line m at next) where
-  old : List ℕ
-  old = take m line
-
-  front : List ℕ
-  front = take at line
-
-  back : List ℕ
-  back = drop at (take m line)
-
   old-long : length (take m line) ≡ m
   old-long = length-take-le m line (omega (arith, asked .room))
 

@@ -1,19 +1,16 @@
 -- The flags of the line: what they say of the entries before, and when they stay right.
 use Prim.Native.Nat.{ℕ, zero, suc, _+_, _≤_, _<_}
 use mathlib.Core.Path.{_≡_, refl, sym, ap, _∙_}
-use mathlib.Core.Bool.{Bool, true, false}
-use mathlib.Core.List.{List, [], _∷_, _++_, append-assoc}
+use mathlib.Core.List.{List, [], _∷_, _++_, append-nil}
 use native.Mathlib.Nat.{add-zero}
 use native.Mathlib.Decide.{decLe}
 use native.Mathlib.Omega.{arith}
-use lib.Dec.{leb, eqb}
 use lib.ListN.{length, take, getD}
 use lib.Seq.{append-snoc}
-use borrow.Author.Tests.{le-leb, lt-leb}
-use Rattle.hypervolume.specs.Cells.{both, holds, dominates}
-use Rattle.sweep.specs.Line.{tally, spot, xOf, yOf, indexOf, flagOf, over, overBy, low, FlagRight, Flagged}
-use Rattle.sweep.proofs.Tallies.{tally-append, tally-le}
-use Rattle.sweep.proofs.Columns.{low-append, low-more}
+use Rattle.hypervolume.specs.Cells.{holds, dominates}
+use Rattle.sweep.specs.Line.{tally, spot, xOf, yOf, over, low, FlagRight, Flagged}
+use Rattle.sweep.proofs.Tallies.{tally-append}
+use Rattle.sweep.proofs.Columns.{low-more}
 
 pub over-append : (s t : List ℕ) (c : List ℕ) → over (s ++ t) c ≡ over s c + over t c
 unfolding over
@@ -67,10 +64,6 @@ flagged-fewer before other [] h f = tt
 flagged-fewer before other (w ∷ line) h f =
     (flag-fewer h (f .0), flagged-fewer (before ++ (w ∷ [])) (other ++ (w ∷ [])) line (fewer-more h w) (f .1))
 
-pub append-none : {A : Type 0} (l : List A) → l ++ [] ≡ l
-append-none [] = refl
-append-none (a ∷ l) = ap (λ t. a ∷ t) (append-none l)
-
 -- Two lines, one behind the other.
 pub flagged-front : (before s t : List ℕ) → Flagged before (s ++ t) → Flagged before s
 unfolding Flagged
@@ -79,12 +72,12 @@ flagged-front before (w ∷ s) t f = (f .0, flagged-front (before ++ (w ∷ []))
 
 pub flagged-back : (before s t : List ℕ) → Flagged before (s ++ t) → Flagged (before ++ s) t
 unfolding Flagged
-flagged-back before [] t f = rw (append-none before) f
+flagged-back before [] t f = rw (append-nil before) f
 flagged-back before (w ∷ s) t f = rw (append-snoc before w s) at (flagged-back (before ++ (w ∷ [])) s t (f .1))
 
 pub flagged-join : (before s t : List ℕ) → Flagged before s → Flagged (before ++ s) t → Flagged before (s ++ t)
 unfolding Flagged
-flagged-join before [] t f g = rw (append-none before) at g
+flagged-join before [] t f g = rw (append-nil before) at g
 flagged-join before (w ∷ s) t f g =
     (f .0, flagged-join (before ++ (w ∷ [])) s t (f .1) (rw (append-snoc before w s) g))
 
@@ -95,6 +88,6 @@ flagged-one before w f = (f, tt)
 pub flagged-at : (before line : List ℕ) → Flagged before line → (k : ℕ) → k < length line → FlagRight (before ++ take k line) (getD line k 0)
 unfolding Flagged
 flagged-at before [] f k l = absurd (let no′ : ⊥ = omega arith in no′)
-flagged-at before (w ∷ line) f zero l = rw (append-none before) (f .0)
+flagged-at before (w ∷ line) f zero l = rw (append-nil before) (f .0)
 flagged-at before (w ∷ line) f (suc k) l =
     rw (append-snoc before w (take k line)) at (flagged-at (before ++ (w ∷ [])) line (f .1) k (omega arith))

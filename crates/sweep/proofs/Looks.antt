@@ -1,9 +1,9 @@
 -- Looking back along the line for the column at the next point: an entry without the flag has the least y so far, so
 -- the entries before it do not change a column whose second least y is at most that.
 use Prim.Native.Nat.{ℕ, suc, _-_, _≤_, _<_}
-use mathlib.Core.Path.{_≡_, refl, sym, ap, _∙_}
-use mathlib.Core.Bool.{Bool, true, false}
-use mathlib.Core.List.{List, [], _∷_, _++_}
+use mathlib.Core.Path.{_≡_}
+use mathlib.Core.Bool.{true}
+use mathlib.Core.List.{List, []}
 use native.Mathlib.Omega.{arith}
 use lib.Dec.{leb, eqb}
 use lib.ListN.{length, take, drop, getD, take-append-drop}
@@ -12,7 +12,7 @@ use borrow.Author.Tests.{leb-true, eqb-true}
 use Rattle.hypervolume.specs.Cells.{both}
 use Rattle.hypervolume.proofs.Tests.{both-true}
 use Rattle.sweep.specs.declared.column.Column.{Column}
-use Rattle.sweep.specs.Line.{yOf, indexOf, flagOf, low, Flagged}
+use Rattle.sweep.specs.Line.{yOf, indexOf, flagOf, Flagged}
 use Rattle.sweep.specs.Strips.{columnWith, Standing, Seen}
 use Rattle.sweep.proofs.Columns.{standing-none, standing-before, standing-behind, columnWith-owned}
 use Rattle.sweep.proofs.Flags.{flagged-at}

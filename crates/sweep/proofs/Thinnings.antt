@@ -4,15 +4,15 @@
 use Prim.Native.Nat.{ℕ, zero, suc, _+_, _-_, _≤_, _<_, min}
 use mathlib.Core.Path.{_≡_, refl, sym, ap, _∙_}
 use mathlib.Core.Bool.{Bool, true, false}
-use mathlib.Core.List.{List, [], _∷_, _++_, append-assoc}
-use native.Mathlib.Nat.{zero-add, le-trans}
+use mathlib.Core.List.{List, [], _∷_, _++_, append-assoc, append-nil}
+use native.Mathlib.Nat.{zero-add}
 use native.Mathlib.Numerals.{add-one}
 use native.Mathlib.Decide.{decLe, ℕ-discrete}
 use native.Mathlib.Omega.{arith}
 use lib.Dec.{leb, eqb}
 use lib.ListN.{length, take, drop, getD, set, length-append, length-take, length-drop, length-set, take-append-drop, drop-of-length-le}
-use lib.Seq.{append-snoc, drop-cons, drop-append-le, getD-take, getD-drop, take-take, take-nil, drop-drop, length-take-le, take-set-le, take-set-lt, drop-set-lt, take-suc-set}
-use borrow.Author.Tests.{le-leb, lt-leb}
+use lib.Seq.{append-snoc, drop-cons, drop-append-le, getD-take, getD-drop, take-take, take-nil, drop-drop, length-take-le, take-set-le, drop-set-lt, take-suc-set}
+use borrow.Author.Tests.{le-leb}
 use Rattle.hypervolume.specs.Cells.{both, holds, dominates}
 use Rattle.hypervolume.proofs.Tests.{both-comm}
 use Rattle.hypervolume.proofs.Dominance.{first, rest, atMost, atMost-dominates}
@@ -21,7 +21,7 @@ use Rattle.sweep.specs.Entries.{Below, Thinned, Thinning, Walked}
 use Rattle.sweep.proofs.Tallies.{tally-append}
 use Rattle.sweep.proofs.Columns.{low-append, low-more, under as under′, beyond}
 use Rattle.sweep.proofs.Orders.{rising-back, rising-from, rising-less, rising-same}
-use Rattle.sweep.proofs.Flags.{over-append, over-cons, over-more, Fewer, fewer-same, flag-fewer, flagged-fewer, append-none, flagged-back, flagged-join, flagged-one}
+use Rattle.sweep.proofs.Flags.{over-append, over-cons, over-more, Fewer, fewer-same, flagged-fewer, flagged-back, flagged-join, flagged-one}
 
 -- Lines that count alike at a cell.
 pub alike-then : {a b c : List ℕ} {i j : ℕ} → AlikeAt a b i j → AlikeAt b c i j → AlikeAt a c i j
@@ -355,7 +355,7 @@ walking-none line m at next h =
               let inside : at + k < m = omega (arith, many) in
               rw (getD-drop at (take m line) k 0, getD-take m line (at + k) 0 inside) (h .beyond (at + k) (omega arith) inside));
           flags-done = tt;
-          flags-rest = rw (append-none front) (flagged-back [] front back (rw whole (h .kept .flags)));
+          flags-rest = rw (append-nil front) (flagged-back [] front back (rw whole (h .kept .flags)));
           alike = λ i j. alike-same refl (λ t. refl);
           below = λ n b. b;
         }

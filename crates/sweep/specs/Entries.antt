@@ -4,7 +4,7 @@ use mathlib.Core.Path.{_≡_}
 use mathlib.Core.Bool.{Bool, true, false}
 use mathlib.Core.List.{List, [], _∷_, _++_}
 use lib.ListN.{length, take, drop, getD}
-use Rattle.sweep.specs.Line.{xOf, yOf, indexOf, flagOf, Rising, Flagged, Kept, Ranked, AlikeAt, Alike, insertAt}
+use Rattle.sweep.specs.Line.{xOf, indexOf, flagOf, Rising, Flagged, Kept, Ranked, AlikeAt, Alike, insertAt}
 
 abbrev pub pickEntry : Bool → ℕ → ℕ → ℕ
 pickEntry true v w = v

@@ -1,7 +1,6 @@
 // One pass along the line, for the next point p. Between neighbouring x's the columns of cells are alike, so each such
 // strip is settled by one product.
 ghost use mathlib.Core.Path.{_≡_};
-ghost use mathlib.Core.Bool.{Bool};
 ghost use mathlib.Core.List.{[]};
 ghost use lib.Dec.{leb, eqb};
 ghost use Rattle.hypervolume.specs.Cells.{both};

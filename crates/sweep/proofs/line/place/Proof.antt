@@ -1,6 +1,5 @@
 -- `place` meets its contract. The invariant: the entries from k on have moved up.
 use Prim.Native.Nat.{_-_}
-use native.Mathlib.Omega.{arith}
 use Rattle.sweep.proofs.Placings.{Shifted, shifted-none, shifted-more, shifted-end}
 use borrow.Author.Needs.{needs}
 use Rattle.sweep.proofs.line.place.Statement.{statement}

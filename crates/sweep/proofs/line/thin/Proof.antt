@@ -1,7 +1,5 @@
 -- `thin` meets its contract. The invariant: the walk so far.
 use Prim.Native.Nat.{_-_}
-use native.Mathlib.Omega.{arith}
-use borrow.Author.Count.{falls}
 use Rattle.sweep.proofs.Thinnings.{Walking, walking-none, walking-kept, walking-flagged, walking-less, walking-stop, walking-end}
 use borrow.Author.Needs.{needs}
 use Rattle.sweep.proofs.line.thin.Statement.{statement}
