@@ -1,23 +1,21 @@
 -- How a call's answer follows from its rows: refused by rows 1 to 3, turned down by a row of its own, or done.
-use Prim.Native.Nat.{ℕ, zero, suc, _+_, _-_, _*_, _≤_, _<_, _^_}
-use mathlib.Core.Path.{_≡_, refl, sym, ap, ap₂, _∙_}
+use Prim.Native.Nat.{ℕ, zero, suc, _+_, _*_, _≤_, _<_}
+use mathlib.Core.Path.{_≡_, sym, ap, ap₂, _∙_}
 use mathlib.Core.Bool.{Bool, true, false, not}
-use mathlib.Core.List.{List, [], _∷_, _++_, append-assoc}
+use mathlib.Core.List.{List, _++_, append-assoc, []}
 use native.Mathlib.Nat.{zero-add, sub-zero}
 use native.Mathlib.Omega.{arith}
-use lib.Dec.{ltb, eqb}
-use borrow.Author.Tests.{lt-ltb, le-ltb, eq-eqb, ne-eqb}
+use lib.Dec.{ltb}
+use borrow.Author.Tests.{lt-ltb, le-ltb}
 use lib.ListN.{length, take, drop, replicate, length-replicate, replicate-append-replicate}
 use lib.Seq.{drop-at}
 use Rattle.hypervolume.specs.Cells.{box}
-use Rattle.words.specs.Archive.{Trial, Row, Shape, Archive, reference}
+use Rattle.words.specs.Archive.{Row, Shape, reference}
 use Rattle.words.specs.Layout.{word, read, read-shape, extent, layout, header, records}
 use Rattle.words.specs.Format.{guard, shape-allowed, archive-rows}
-use Rattle.words.specs.Places.{rows-before, header-words}
-use Rattle.words.proofs.Passed.{Passed, Sound, passed, passes-again, still-refused, ShapeBounds, shape-bounds, bounds-shape, box-bound}
-use Rattle.archive.specs.declared.Answer.{Answer}
-use Rattle.archive.specs.declared.LeastAnswer.{LeastAnswer}
-use Rattle.archive.specs.Calls.{empty, least-row, least-rows}
+use Rattle.words.specs.Places.{header-words}
+use Rattle.words.proofs.Passed.{Passed, Sound, passed, passes-again, still-refused, box-bound}
+use Rattle.archive.specs.Calls.{empty}
 use Rattle.archive.specs.Lent.{Outcome, leaves, answer, start, start-rows, least-answer}
 
 pub guard-yes : (t : Bool) (n rest : ℕ) → t ≡ true → guard t n rest ≡ n

@@ -8,7 +8,8 @@ use native.Mathlib.Omega.{arith}
 use lib.Dec.{eqb}
 use borrow.Author.Tests.{eq-eqb, ne-eqb}
 use lib.ListN.{length}
-use Rattle.hypervolume.specs.Cells.{both, box}
+use Rattle.slices.specs.Choices.{both}
+use Rattle.hypervolume.specs.Cells.{box}
 use Rattle.words.specs.Archive.{Trial, Row, Archive}
 use Rattle.words.specs.Layout.{read, read-shape, word}
 use Rattle.words.specs.Format.{guard, archive-rows, coordinates-allowed, held}

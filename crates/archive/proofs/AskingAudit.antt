@@ -2,14 +2,14 @@
 use Prim.Native.Nat.{ℕ}
 use mathlib.Core.Path.{_≡_, refl, sym, ap, ap₂, _∙_}
 use mathlib.Core.Bool.{Bool, true, false, not}
-use mathlib.Core.List.{List, [], _∷_, map}
+use mathlib.Core.List.{List, _∷_, map, []}
 use lib.Dec.{eqb}
 use borrow.Author.Tests.{eq-eqb, ne-eqb}
 use lib.ListN.{take}
 use lib.Seq.{take-at}
-use Rattle.hypervolume.specs.Cells.{both}
+use Rattle.slices.specs.Choices.{both, either}
 use Rattle.hypervolume.specs.Counts.{total, contribution, contributions}
-use Rattle.words.specs.Archive.{Row, Archive, point, trials, points, either}
+use Rattle.words.specs.Archive.{Row, Archive, point, trials, points}
 use Rattle.words.specs.Layout.{read, word, record-words}
 use Rattle.archive.specs.Calls.{reference-of, held-points, rows-counted, audited}
 use Rattle.archive.specs.Columns.{field-of, column}

@@ -1,23 +1,21 @@
 -- The columns of coordinates of an archive's records are what the sweep asks for, and hold the trials' points.
-use Prim.Native.Nat.{ℕ, zero, suc, _+_, _-_, _*_, _≤_, _<_, zero-le, min}
+use Prim.Native.Nat.{ℕ, zero, suc, _+_, _-_, _≤_, _<_, zero-le, min}
 use mathlib.Core.Path.{_≡_, refl, sym, ap, ap₂, _∙_}
-use mathlib.Core.Bool.{Bool, true, false}
-use mathlib.Core.List.{List, [], _∷_, _++_, map}
+use mathlib.Core.Bool.{true}
+use mathlib.Core.List.{List, _∷_, _++_, []}
 use native.Mathlib.Decide.{decLt}
 use native.Mathlib.Omega.{arith}
 use lib.ListN.{length, getD, take, drop, length-append, length-take, length-drop}
-use lib.Seq.{take-at, drop-cons}
-use Rattle.hypervolume.specs.Cells.{both}
-use Rattle.hypervolume.proofs.Tests.{both-true, both-intro}
+use lib.Seq.{take-at}
+use Rattle.slices.proofs.Choices.{both-true, both-intro}
 use Rattle.hypervolume.specs.Counts.{total, contributions, gain, joints}
 use Rattle.sweep.specs.Points as sweep-points
 use Rattle.sweep.specs.Points.{Small, Ready}
-use Rattle.words.specs.Archive.{Trial, Row, Shape, Archive, point, reference, trials, points, before}
+use Rattle.words.specs.Archive.{Trial, Row, Shape, point, reference, trials, points, before}
 use Rattle.words.specs.Layout.{record-words, read-row, read, read-shape, word}
 use Rattle.words.specs.Format.{archive-rows, row-allowed, rows-allowed, ordered, distinct}
 use Rattle.words.specs.Places.{rows-before}
-use Rattle.words.proofs.Passed.{Passed, passed, Sound, ShapeBounds, RowBounds, row-bounds}
-use Rattle.words.proofs.Lists.{rows-allowed-append}
+use Rattle.words.proofs.Passed.{passed, ShapeBounds, RowBounds, row-bounds}
 use Rattle.archive.specs.Calls.{others}
 use Rattle.archive.specs.Amounts.{CountedAll, CountedJoints}
 use Rattle.archive.specs.Columns.{field-of, column, leave-out}

@@ -2,17 +2,17 @@
 -- whether they are, and row 13 never comes where they are.
 use Prim.Native.Nat.{ℕ, _+_, _-_, _≤_}
 use mathlib.Core.Path.{_≡_, refl, sym, ap, _∙_}
-use mathlib.Core.Bool.{Bool, true, false}
+use mathlib.Core.Bool.{true, false}
 use mathlib.Core.Logic.{_⊎_, inl, inr, _↔_}
-use mathlib.Core.List.{List, [], _∷_, map, List·Memᴰ, List·Memᴰ·cases-cons, Memᴰ·map, Memᴰ·of-map}
+use mathlib.Core.List.{List, _∷_, map, List·Memᴰ, List·Memᴰ·cases-cons, Memᴰ·map, Memᴰ·of-map, []}
 use native.Mathlib.Omega.{arith}
 use lib.Dec.{eqb}
 use borrow.Author.Tests.{eqb-true, eq-eqb, le-ltb}
 use Rattle.hypervolume.specs.Counts.{total, contribution, joint, gain}
-use Rattle.hypervolume.proofs.Tests.{both-true, both-intro}
+use Rattle.slices.proofs.Choices.{both-true, both-intro, neither}
 use Rattle.hypervolume.proofs.Dominance.{Among, among-member}
 use Rattle.hypervolume.proofs.Counting.{SameCover, total-same, contribution-same, total-more, contribution-new, contribution-more, total-le-box, contribution-le-box, total-none}
-use Rattle.words.specs.Archive.{Trial, Row, Shape, Archive, point, trials, points, either}
+use Rattle.words.specs.Archive.{Trial, Row, Shape, Archive, point, trials, points}
 use Rattle.words.specs.Format.{held, distinct}
 use Rattle.archive.specs.Calls.{held-trials, held-points, reference-of, box-of, empty, place, insert-gain, joint-with, lowered, inserted, falls-below, insert-overruns, row-of, others, without, removal-loss, raised, removed, exceeds, remove-overruns, rows-counted, audited}
 use Rattle.archive.specs.Counted.{IsCounted, counted-row, counted}
@@ -199,10 +199,6 @@ counted-remove s ts n h d =
     ∙ ap (counted s) (removed-trials (counted s ts) n)
 
 -- Row 13 never comes on a counted archive.
-neither : (s t : Bool) → s ≡ false → t ≡ false → either s t ≡ false
-unfolding either
-neither s t p q = rw (p, q)
-
 pub insert-fits : (a : Archive) (t : Trial) → IsCounted a → insert-overruns a t ≡ false
 unfolding insert-overruns inserted falls-below
 insert-fits a t h =

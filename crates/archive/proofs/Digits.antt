@@ -1,6 +1,6 @@
 -- Long division, digit by digit: total × 10^i is quotient × whole and a rest below it.
-use Prim.Native.Nat.{ℕ, zero, suc, _+_, _-_, _*_, _/_, _%_, _^_, _≤_, _<_}
-use mathlib.Core.Path.{_≡_, refl, sym, ap, _∙_}
+use Prim.Native.Nat.{ℕ, _+_, _*_, _/_, _%_, _^_, _≤_, _<_}
+use mathlib.Core.Path.{_≡_, sym, ap, _∙_}
 use native.Mathlib.Nat.{add-zero, add-mul, div-add-mod', div-eq-of-lt, le-of-mul-le-mul-right, le-trans, mod-lt, mul-add-div-right, mul-assoc, mul-comm, mul-le-mul-right, mul-one, mul-right-comm, pow-le-pow-right, pow-suc}
 use native.Mathlib.Numerals.{add-one}
 use native.Mathlib.Omega.{arith}

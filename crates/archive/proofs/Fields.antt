@@ -2,12 +2,12 @@
 -- the trials' points.
 use Prim.Native.Nat.{ℕ, zero, suc, _+_, _-_, _*_, _≤_, _<_, min}
 use mathlib.Core.Path.{_≡_, refl, sym, ap, ap₂, _∙_}
-use mathlib.Core.List.{List, [], _∷_, _++_, append-assoc, append-nil, map}
+use mathlib.Core.List.{List, _∷_, _++_, append-assoc, append-nil, []}
 use native.Mathlib.Nat.{add-comm, le-refl, sub-zero, zero-add}
 use native.Mathlib.Omega.{arith}
 use lib.ListN.{length, take, drop, getD, length-append, length-take, length-drop, drop-of-length-le}
 use lib.Seq.{getD-drop, drop-drop, take-at, drop-at, take-all}
-use Rattle.words.specs.Archive.{Trial, Row, point, trials, points}
+use Rattle.words.specs.Archive.{Row}
 use Rattle.words.specs.Layout.{record-words, read-row, read-rows}
 use Rattle.words.proofs.Reading.{length-read-rows}
 use Rattle.archive.specs.Columns.{fifths, field-of, column, leave-out}

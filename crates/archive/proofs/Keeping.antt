@@ -1,8 +1,7 @@
 -- Laws of records with new contributions, and of the loop that stores them.
 use Prim.Native.Nat.{ℕ, zero, suc, _+_, _-_, _*_, _≤_, _<_}
 use mathlib.Core.Path.{_≡_, refl, sym, ap, _∙_}
-use mathlib.Core.List.{List, [], _∷_, _++_, append-assoc, append-nil}
-use native.Mathlib.Nat.{mul-zero}
+use mathlib.Core.List.{List, _∷_, _++_, append-nil, []}
 use native.Mathlib.Numerals.{add-one}
 use native.Mathlib.Omega.{arith}
 use lib.ListN.{length, take, drop, set, getD, length-drop}
@@ -11,7 +10,7 @@ use Rattle.words.specs.Archive.{Row}
 use Rattle.words.specs.Layout.{record-words, records, read-row, read-rows}
 use Rattle.words.proofs.Reading.{records-append, length-read-rows, stretch, take-stretch}
 use Rattle.archive.specs.Columns.{rekept}
-use Rattle.archive.proofs.Writing.{Written, written-none, written-fifth, written-length, written-end}
+use Rattle.archive.proofs.Writing.{Written, written-none, written-fifth, written-length}
 
 -- One record more, at the end.
 pub read-rows-more : (n : ℕ) (w : List ℕ) → read-rows (suc n) w ≡ read-rows n w ++ (read-row (drop (5 * n) w) ∷ [])

@@ -1,13 +1,14 @@
 -- The loop that looks for the least contributor: of the records passed, the one at place b goes first.
-use Prim.Native.Nat.{ℕ, zero, suc, _+_, _≤_, _<_}
+use Prim.Native.Nat.{ℕ, _+_, _≤_, _<_}
 use mathlib.Core.Path.{_≡_, refl, sym, ap, _∙_}
 use mathlib.Core.Bool.{Bool, true, false}
-use mathlib.Core.List.{List, [], _∷_}
+use mathlib.Core.List.{List, _∷_, []}
 use native.Mathlib.Numerals.{add-one}
 use native.Mathlib.Omega.{arith}
 use lib.ListN.{length, getD, drop, drop-of-length-le}
 use lib.Seq.{drop-cons}
-use Rattle.words.specs.Archive.{Row, pick}
+use Rattle.words.specs.Archive.{Row}
+use Rattle.slices.specs.Choices.{pick}
 use Rattle.archive.specs.Calls.{goes-first, least-from, least-row}
 
 pub record Leading (rows : List Row) (d : Row) (b i : ℕ) : Type 0 where

@@ -2,7 +2,7 @@
 -- and passes rows 1 to 3 again.
 use Prim.Native.Nat.{ℕ, zero, suc, _-_}
 use mathlib.Core.Path.{_≡_, refl, sym, ap, _∙_}
-use mathlib.Core.List.{List, [], _++_}
+use mathlib.Core.List.{List, _++_, []}
 use lib.ListN.{length, drop}
 use Rattle.words.specs.Archive.{Trial, Archive}
 use Rattle.words.specs.Layout.{layout, read, behind}

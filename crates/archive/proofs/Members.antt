@@ -4,15 +4,17 @@ use Prim.Native.Nat.{ℕ, suc}
 use mathlib.Core.Path.{_≡_, refl, sym, ap, _∙_}
 use mathlib.Core.Bool.{Bool, true, false, true≢false}
 use mathlib.Core.Logic.{_⊎_, inl, inr}
-use mathlib.Core.List.{List, [], _∷_, map, List·Memᴰ, List·Memᴰ·head, List·Memᴰ·tail, List·Memᴰ·not-nil, List·Memᴰ·cases-cons, Memᴰ·cast, Memᴰ·map, Memᴰ·of-map}
+use mathlib.Core.List.{List, _∷_, map, List·Memᴰ, List·Memᴰ·head, List·Memᴰ·tail, List·Memᴰ·not-nil, List·Memᴰ·cases-cons, Memᴰ·cast, Memᴰ·map, Memᴰ·of-map, []}
 use native.Mathlib.Omega.{arith}
 use lib.Dec.{eqb}
 use lib.ListN.{length}
 use borrow.Author.Tests.{eq-eqb, ne-eqb, not-true}
 use Rattle.hypervolume.specs.Counts.{cover}
-use Rattle.hypervolume.proofs.Tests.{Equated, same, differs, equated, both-true}
+use Rattle.hypervolume.proofs.Tests.{Equated, same, differs, equated}
+use Rattle.slices.proofs.Choices.{both-true}
 use Rattle.hypervolume.proofs.Counting.{SameCover}
-use Rattle.words.specs.Archive.{Trial, Row, trials, points, pick, either, before}
+use Rattle.words.specs.Archive.{Trial, Row, trials, points, before}
+use Rattle.slices.specs.Choices.{pick, either}
 use Rattle.words.specs.Format.{held, distinct}
 use Rattle.archive.specs.Calls.{place, row-of, others}
 

@@ -1,12 +1,12 @@
 -- The archive's moves of contributions, as columns moved by amounts: what the loops over plain slices compute.
-use Prim.Native.Nat.{ℕ, zero, suc, _+_, _-_, _≤_, _<_}
-use mathlib.Core.Path.{_≡_, refl, sym, ap, ap₂, _∙_}
-use mathlib.Core.Bool.{Bool, true, false}
-use mathlib.Core.List.{List, [], _∷_, map}
+use Prim.Native.Nat.{suc, _+_, _-_}
+use mathlib.Core.Path.{_≡_, refl, ap}
+use mathlib.Core.List.{List, _∷_, map, []}
 use lib.Dec.{ltb}
 use lib.ListN.{length}
 use Rattle.hypervolume.specs.Counts.{joint, joints}
-use Rattle.words.specs.Archive.{Trial, Row, Archive, point, trials, points, either}
+use Rattle.words.specs.Archive.{Trial, Row, Archive, point, trials, points}
+use Rattle.slices.specs.Choices.{either}
 use Rattle.words.specs.Layout.{record-words}
 use Rattle.archive.specs.Calls.{joint-with, lowered, falls-below, raised, exceeds, reference-of, held-points, box-of}
 use Rattle.archive.specs.Columns.{field-of, column, rekept}

@@ -5,6 +5,7 @@ use mathlib.Core.Path.{_≡_, refl, sym, _∙_}
 use mathlib.Core.Bool.{true}
 use mathlib.Core.List.{List·Memᴰ, List·Memᴰ·head, List·Memᴰ·tail, Memᴰ·map}
 use native.Mathlib.Omega.{arith}
+use Rattle.slices.proofs.Choices.{either-false}
 use Rattle.hypervolume.proofs.Counting.{joint-same}
 use Rattle.words.specs.Archive.{Trial, Row, Archive, point, trials, points}
 use Rattle.words.specs.Format.{held}
@@ -13,7 +14,7 @@ use Rattle.archive.specs.Calls.{held-trials, reference-of, insert-gain, 
 use Rattle.archive.proofs.Members.{member-place, member-others, Split, split}
 use Rattle.archive.proofs.Order.{held-of}
 use Rattle.archive.proofs.Counted.{inserted-cover}
-use Rattle.archive.proofs.Sound.{InsertPassed, RemovePassed, neither-false, kept-covers, inserted-sound, removed-sound}
+use Rattle.archive.proofs.Sound.{InsertPassed, RemovePassed, kept-covers, inserted-sound, removed-sound}
 use Rattle.archive.proofs.Ranking.{row-of-member}
 
 -- The record of a number, where its record is known to be there.
@@ -65,7 +66,7 @@ module _ (a : Archive) (t : Trial) (s : Sound a) (p : InsertPassed a t) where
   unfolding insert-overruns
   kept-lowered n h =
       let found = split n (a .rows) h (s .apart) in
-      let enough = kept-covers a t (a .rows) (neither-false _ _ (p .fits) .1) (row-of n (a .rows)) (found .member) in
+      let enough = kept-covers a t (a .rows) (either-false _ _ (p .fits) .1) (row-of n (a .rows)) (found .member) in
       rw (row-lowered n h, joint-after n h) (unfold lowered in omega arith)
 
 module _ (a : Archive) (n : ℕ) (s : Sound a) (p : RemovePassed a n) where

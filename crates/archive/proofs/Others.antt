@@ -1,15 +1,15 @@
 -- The record of a number and the others, by the place where it stands, in records with distinct numbers.
-use Prim.Native.Nat.{ℕ, zero, suc, _+_, _≤_, _<_}
-use mathlib.Core.Path.{_≡_, refl, sym, ap, _∙_}
+use Prim.Native.Nat.{ℕ, zero, suc, _<_}
+use mathlib.Core.Path.{_≡_, refl, ap}
 use mathlib.Core.Bool.{Bool, true, false, not}
-use mathlib.Core.List.{List, [], _∷_, _++_}
+use mathlib.Core.List.{List, _∷_, []}
 use native.Mathlib.Omega.{arith}
 use lib.Dec.{eqb}
 use borrow.Author.Tests.{eq-eqb, ne-eqb, not-true}
-use lib.ListN.{length, getD, take, drop}
-use Rattle.hypervolume.specs.Cells.{both}
-use Rattle.hypervolume.proofs.Tests.{both-true}
-use Rattle.words.specs.Archive.{Trial, Row, trials, pick, either}
+use lib.ListN.{length, getD}
+use Rattle.slices.specs.Choices.{pick, either}
+use Rattle.slices.proofs.Choices.{both-true}
+use Rattle.words.specs.Archive.{Trial, Row, trials}
 use Rattle.words.specs.Format.{held, distinct}
 use Rattle.words.proofs.Lists.{held-at}
 use Rattle.archive.specs.Calls.{row-of, others}

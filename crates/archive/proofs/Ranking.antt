@@ -4,14 +4,15 @@ use Prim.Native.Nat.{suc, _≤_, _<_}
 use mathlib.Core.Path.{_≡_, refl, sym, ap, _∙_}
 use mathlib.Core.Bool.{Bool, true, false}
 use mathlib.Core.Logic.{_⊎_, inl, inr}
-use mathlib.Core.List.{List, [], _∷_, List·Memᴰ, List·Memᴰ·head, List·Memᴰ·tail, List·Memᴰ·not-nil, List·Memᴰ·cases-cons, Memᴰ·map}
+use mathlib.Core.List.{List, _∷_, List·Memᴰ, List·Memᴰ·head, List·Memᴰ·tail, List·Memᴰ·not-nil, List·Memᴰ·cases-cons, Memᴰ·map, []}
 use native.Mathlib.Omega.{arith}
 use lib.Dec.{eqb, ltb}
 use lib.ListN.{length}
 use borrow.Author.Tests.{not-true}
-use Rattle.hypervolume.specs.Cells.{both}
-use Rattle.hypervolume.proofs.Tests.{Compared, below, above, compared, Equated, same, differs, equated, both-true}
-use Rattle.words.specs.Archive.{Row, trials, pick, either}
+use Rattle.slices.specs.Choices.{both, pick, either}
+use Rattle.hypervolume.proofs.Tests.{Compared, below, above, compared, Equated, same, differs, equated}
+use Rattle.slices.proofs.Choices.{both-true}
+use Rattle.words.specs.Archive.{Row, trials}
 use Rattle.words.specs.Format.{held, distinct}
 use Rattle.archive.specs.Calls.{row-of, goes-first, least-from, least-row}
 use Rattle.archive.proofs.Members.{row-of-here, row-of-later}

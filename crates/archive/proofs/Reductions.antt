@@ -2,25 +2,25 @@
 use Prim.Native.Nat.{ℕ, zero, suc, _+_, _-_, _*_, _≤_, _<_}
 use mathlib.Core.Path.{_≡_, refl, sym, ap, ap₂, _∙_, subst}
 use mathlib.Core.Bool.{Bool, true, false, not}
-use mathlib.Core.List.{List, [], _∷_, _++_, append-assoc, append-nil}
+use mathlib.Core.List.{List, _∷_, _++_, append-assoc, append-nil, []}
 use native.Mathlib.Nat.{add-zero}
 use native.Mathlib.Numerals.{add-one}
 use native.Mathlib.Omega.{arith}
 use lib.Dec.{ltb}
-use borrow.Author.Tests.{lt-ltb, le-ltb, not-true, not-false, ltb-false}
-use lib.ListN.{length, getD, take, drop, set, length-append, length-drop}
+use borrow.Author.Tests.{lt-ltb, le-ltb, not-false, ltb-false}
+use lib.ListN.{length, getD, take, drop, set}
 use lib.Seq.{take-at, drop-at, drop-drop, getD-drop, sets-eq}
-use Rattle.words.specs.Archive.{Trial, Row, Shape, Archive, trials, pick}
-use Rattle.words.specs.Layout.{word, layout, read, read-row, read-shape, behind, extent}
+use Rattle.words.specs.Archive.{Row, Archive, trials}
+use Rattle.slices.specs.Choices.{pick}
+use Rattle.words.specs.Layout.{word, layout, read, read-row, behind}
 use Rattle.words.specs.Format.{guard, archive-rows, held}
 use Rattle.words.specs.Places.{row-at, rows-before}
-use Rattle.words.proofs.Reading.{read-layout, behind-layout, length-layout}
-use Rattle.words.proofs.Passed.{Passed, Sound, passed, sound-passes}
+use Rattle.words.proofs.Reading.{read-layout, behind-layout}
+use Rattle.words.proofs.Passed.{Sound, passed, sound-passes}
 use Rattle.words.proofs.Lists.{held-at}
-use Rattle.archive.specs.declared.Answer.{Answer}
 use Rattle.archive.specs.Calls.{held-trials, least-row, removed, remove-overruns, audited, dropped, note, after-drops, notes, reduce-rows}
 use Rattle.archive.specs.Counted.{IsCounted}
-use Rattle.archive.specs.Lent.{Outcome, Reduced, leaves, reduce}
+use Rattle.archive.specs.Lent.{Outcome, Reduced, reduce}
 use Rattle.archive.specs.Amounts.{number-at}
 use Rattle.archive.proofs.Members.{split}
 use Rattle.archive.proofs.Counted.{remove-fits, audited-counted}

@@ -2,25 +2,25 @@
 use Prim.Native.Nat.{ℕ, zero, suc, _+_, _-_, _*_, _≤_, _<_, zero-le}
 use mathlib.Core.Path.{_≡_, refl, sym, ap, ap₂, _∙_}
 use mathlib.Core.Bool.{Bool, true, false, not}
-use mathlib.Core.List.{List, [], _∷_, _++_, map}
+use mathlib.Core.List.{List, _∷_, _++_, map, []}
 use native.Mathlib.Omega.{arith}
-use lib.Dec.{ltb, eqb}
-use borrow.Author.Tests.{lt-ltb, le-ltb, not-true, not-false, ltb-false, leb-true}
+use lib.Dec.{ltb}
+use borrow.Author.Tests.{lt-ltb, le-ltb, not-true, not-false, ltb-false}
 use lib.ListN.{length, getD, take, drop, set, replicate}
-use lib.Seq.{take-at}
-use Rattle.hypervolume.specs.Cells.{both, box}
-use Rattle.hypervolume.proofs.Tests.{both-true}
+use Rattle.slices.specs.Choices.{pick, either}
+use Rattle.hypervolume.specs.Cells.{box}
+use Rattle.slices.proofs.Choices.{both-true, either-false}
 use Rattle.hypervolume.proofs.Counting.{joint-le-box}
 use Rattle.sweep.specs.Points.{Small}
-use Rattle.words.specs.Archive.{Trial, Row, Shape, Archive, point, reference, trials, points, pick, either}
+use Rattle.words.specs.Archive.{Trial, Row, Shape, Archive, point, reference}
 use Rattle.words.specs.Layout.{records, layout, read, read-shape, word, behind, record-words}
-use Rattle.words.specs.Format.{guard, archive-rows, row-allowed, rows-allowed, held}
+use Rattle.words.specs.Format.{guard, archive-rows, row-allowed, rows-allowed}
 use Rattle.words.specs.Places.{rows-before, row-at, Found}
-use Rattle.words.proofs.Passed.{passed, RowBounds, row-bounds, passed-row, shape-bounds}
+use Rattle.words.proofs.Passed.{passed, row-bounds, passed-row, shape-bounds}
 use Rattle.words.proofs.Places.{find-held}
 use Rattle.archive.specs.declared.amounts.Moved.{Moved}
-use Rattle.archive.specs.Calls.{reference-of, held-points, held-trials, box-of, insert-gain, joint-with, row-of, others, without, removal-loss, raised, removed, exceeds, remove-overruns, remove-rows}
-use Rattle.archive.specs.Lent.{Outcome, remove, leaves}
+use Rattle.archive.specs.Calls.{reference-of, held-points, box-of, insert-gain, joint-with, row-of, others, without, removal-loss, raised, removed, exceeds, remove-overruns, remove-rows}
+use Rattle.archive.specs.Lent.{Outcome, remove}
 use Rattle.archive.specs.Columns.{field-of, column, leave-out, rekept}
 use Rattle.archive.specs.Amounts.{moved, some-pair, Each, shares, CountedJoints, number-at, Raised, Striking}
 use Rattle.archive.proofs.Fields.{length-column}
@@ -31,7 +31,7 @@ use Rattle.archive.proofs.MovedRows.{length-shares, exceeds-pairs, rais
 use Rattle.archive.proofs.RecordLoops.{blank, row-there}
 use Rattle.archive.proofs.ColumnsReady.{left-allowed}
 use Rattle.archive.proofs.Answers.{guard-yes, guard-no, rows-refused, rows-passed, leaves-refused, leaves-done, turned-down, known}
-use Rattle.archive.proofs.Updates.{amounts-gain, amounts-shares, kept-loaded, either-left}
+use Rattle.archive.proofs.Updates.{amounts-gain, amounts-shares, kept-loaded}
 
 -- The record at a place, by its number: the one of that number, and the others.
 pub record Removing (w : List ℕ) (k : ℕ) : Type 0 where
@@ -157,7 +157,7 @@ module _ {w : List ℕ} {k : ℕ} {after : List ℕ} {m : Moved} (h : Raised w k
   pub striking : archive-rows w 0 ≡ 0 → k < word w 0 → m .fits ≡ true → Striking w k (m .amount) (take (word w 0 - 1) after)
   unfolding remove-overruns read
   striking p l e =
-      let within-total : ltb (word w 5) (removal-loss (read w) (number-at w k)) ≡ false = either-left _ _ (fits-box e) in
+      let within-total : ltb (word w 5) (removal-loss (read w) (number-at w k)) ≡ false = either-false _ _ (fits-box e) .0 in
       record {
         passes = p;
         inside = l;

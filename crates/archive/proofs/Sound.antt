@@ -1,16 +1,16 @@
 -- Archives that pass rows 2 and 3 still do after a call that is done: insertion, removal, the drops of a reduction.
 use Prim.Native.Nat.{ℕ, suc, _+_, _≤_}
 use mathlib.Core.Path.{_≡_, refl}
-use mathlib.Core.Bool.{Bool, true, false, true≢false}
+use mathlib.Core.Bool.{true, false}
 use mathlib.Core.Logic.{_⊎_, inl, inr}
 use mathlib.Core.List.{List, map, List·Memᴰ, List·Memᴰ·cases-cons, Memᴰ·of-map}
 use native.Mathlib.Omega.{arith}
 use lib.ListN.{length, length-map}
 use borrow.Author.Tests.{eqb-false, ltb-false, not-false, le-leb}
 use Rattle.hypervolume.specs.Cells.{box}
-use Rattle.hypervolume.proofs.Tests.{both-true, both-intro}
+use Rattle.slices.proofs.Choices.{both-true, both-intro, either-false}
 use Rattle.hypervolume.proofs.Counting.{gain-le-box}
-use Rattle.words.specs.Archive.{Trial, Row, Shape, Archive, point, reference, either}
+use Rattle.words.specs.Archive.{Trial, Row, Shape, Archive, point, reference}
 use Rattle.words.specs.Format.{number-allowed, coordinates-allowed, row-allowed, rows-allowed, held}
 use Rattle.words.proofs.Passed.{guard-none, Sound, RowBounds, row-bounds, bounds-row}
 use Rattle.archive.specs.Calls.{held-trials, held-points, reference-of, box-of, insert-gain, joint-with, lowered, inserted, falls-below, insert-overruns, insert-rows, admission-rows, row-of, others, without, raised, removed, exceeds, remove-overruns, remove-rows}
@@ -54,24 +54,19 @@ remove-passed a n e =
     record { known = not-false _ (known .0); fits = fits .0 }
 
 -- Row 13 not given: the bounds that it leaves.
-pub neither-false : (s t : Bool) → either s t ≡ false → (s ≡ false) × (t ≡ false)
-unfolding either
-neither-false true t e = absurd (true≢false e)
-neither-false false t e = (refl, e)
-
 pub kept-covers : (a : Archive) (t : Trial) (rows : List Row) → falls-below a t rows ≡ false → (r : Row)
     → List·Memᴰ r rows → joint-with a t r ≤ r .kept
 unfolding falls-below
 kept-covers a t =
     tested-each (falls-below a t) false (λ r. joint-with a t r ≤ r .kept)
-    (λ r rows e. let parts = neither-false _ _ e in (ltb-false _ _ (parts .0), parts .1))
+    (λ r rows e. let parts = either-false _ _ e in (ltb-false _ _ (parts .0), parts .1))
 
 pub raised-fits : (a : Archive) (t : Trial) (rows : List Row) → exceeds a t rows ≡ false → (r : Row)
     → List·Memᴰ r rows → r .kept + joint-with a t r ≤ box-of a
 unfolding exceeds
 raised-fits a t =
     tested-each (exceeds a t) false (λ r. r .kept + joint-with a t r ≤ box-of a)
-    (λ r rows e. let parts = neither-false _ _ e in (ltb-false _ _ (parts .0), parts .1))
+    (λ r rows e. let parts = either-false _ _ e in (ltb-false _ _ (parts .0), parts .1))
 
 -- Allowed rows, by member.
 pub rows-each : (s : Shape) (rows : List Row) → rows-allowed s rows ≡ true → (r : Row) → List·Memᴰ r rows → RowBounds s r
@@ -105,7 +100,7 @@ new-bounds s t k n c l = row-bounds s _ (both-intro _ _ n (both-intro _ _ c (le-
 pub inserted-sound : (a : Archive) (t : Trial) → Sound a → InsertPassed a t → Sound (inserted a t)
 unfolding inserted insert-overruns insert-gain lowered
 inserted-sound a t s p =
-    let parts = neither-false _ _ (p .fits) in
+    let parts = either-false _ _ (p .fits) in
     let least : length (a .rows) ≤ a .shape .capacity = s .held-within in
     let room : length (a .rows) ≡ a .shape .capacity → ⊥ = p .room in
     record {
@@ -135,7 +130,7 @@ inserted-sound a t s p =
 pub removed-sound : (a : Archive) (n : ℕ) → Sound a → RemovePassed a n → Sound (removed a n)
 unfolding removed remove-overruns raised without
 removed-sound a n s p =
-    let parts = neither-false _ _ (p .fits) in
+    let parts = either-false _ _ (p .fits) in
     let high : a .sum ≤ box-of a = s .within-box in
     let all : length (a .rows) ≤ a .shape .capacity = s .held-within in
     let fewer : length (a .rows) ≡ suc (length (others n (a .rows))) = split n (a .rows) (p .known) (s .apart) .count in

@@ -1,13 +1,14 @@
 -- What the words hold after a record is entered or struck out, and after the header is written: a layout again.
-use Prim.Native.Nat.{ℕ, zero, suc, _+_, _-_, _*_, _≤_, _<_, min}
+use Prim.Native.Nat.{ℕ, suc, _+_, _-_, _*_, _≤_, _<_, min}
 use mathlib.Core.Path.{_≡_, refl, sym, ap, ap₂, _∙_}
 use mathlib.Core.Bool.{Bool, true, false}
-use mathlib.Core.List.{List, [], _∷_, _++_, append-assoc, map}
+use mathlib.Core.List.{List, _∷_, _++_, append-assoc, map, []}
 use native.Mathlib.Numerals.{add-one}
 use native.Mathlib.Omega.{arith}
-use lib.ListN.{length, take, drop, set, getD, replicate, length-append, length-take, length-drop, replicate-append-replicate}
+use lib.ListN.{length, take, drop, set, replicate, length-append, length-take, length-drop, replicate-append-replicate}
 use lib.Seq.{take-at, drop-at, drop-drop}
-use Rattle.words.specs.Archive.{Trial, Row, Shape, Archive, pick, before}
+use Rattle.words.specs.Archive.{Trial, Row, Archive, before}
+use Rattle.slices.specs.Choices.{pick}
 use Rattle.words.specs.Layout.{header, records, layout, read-rows, read-shape, read, word, behind}
 use Rattle.words.specs.Places.{rows-before}
 use Rattle.words.proofs.Reading.{length-records, length-read-rows, read-records}

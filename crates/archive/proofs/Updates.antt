@@ -2,31 +2,32 @@
 use Prim.Native.Nat.{ℕ, zero, suc, _+_, _-_, _*_, _≤_, _<_, zero-le}
 use mathlib.Core.Path.{_≡_, refl, sym, ap, ap₂, _∙_}
 use mathlib.Core.Bool.{Bool, true, false, not}
-use mathlib.Core.List.{List, [], _∷_, _++_, map}
+use mathlib.Core.List.{List, _++_, map, []}
 use native.Mathlib.Omega.{arith}
 use lib.Dec.{ltb, eqb}
 use borrow.Author.Tests.{lt-ltb, le-ltb, eq-eqb, ne-eqb, not-true, not-false, eqb-false, leb-true, ltb-false}
-use lib.ListN.{length, getD, take, drop, set}
+use lib.ListN.{length, take, drop, set}
 use lib.Seq.{take-at, length-take-le}
-use Rattle.hypervolume.specs.Counts.{gain, joint, joints}
-use Rattle.hypervolume.proofs.Tests.{both-true}
+use Rattle.hypervolume.specs.Counts.{joints}
+use Rattle.slices.proofs.Choices.{both-true, either-false}
 use Rattle.hypervolume.proofs.Counting.{gain-le-box}
 use Rattle.sweep.specs.Points.{Small}
-use Rattle.words.specs.Archive.{Trial, Row, Shape, Archive, point, reference, trials, points, pick, either}
+use Rattle.words.specs.Archive.{Trial, Row, Archive, point, reference, trials, points}
+use Rattle.slices.specs.Choices.{pick, either}
 use Rattle.words.specs.Layout.{records, layout, read, read-shape, word, behind}
 use Rattle.words.specs.Format.{guard, archive-rows, number-allowed, coordinates-allowed, held}
-use Rattle.words.specs.Places.{rows-before, Found}
+use Rattle.words.specs.Places.{rows-before}
 use Rattle.words.proofs.Passed.{passed, shape-bounds}
 use Rattle.archive.specs.declared.amounts.Moved.{Moved}
-use Rattle.archive.specs.Calls.{reference-of, held-points, held-trials, box-of, insert-gain, joint-with, falls-below, place, lowered, insert-overruns, admission-rows, insert-rows, inserted}
-use Rattle.archive.specs.Lent.{Outcome, insert, leaves}
+use Rattle.archive.specs.Calls.{reference-of, held-points, held-trials, box-of, insert-gain, falls-below, place, lowered, insert-overruns, admission-rows, insert-rows, inserted}
+use Rattle.archive.specs.Lent.{Outcome, insert}
 use Rattle.archive.specs.Columns.{column, leave-out, rekept}
 use Rattle.archive.specs.Amounts.{moved, some-pair, shares, CountedJoints, Lowered, Storing}
 use Rattle.archive.proofs.Fields.{length-column, leave-none}
 use Rattle.archive.proofs.Stored.{count-rows, insert-stored}
 use Rattle.archive.proofs.MovedRows.{length-shares, joints-shares, falls-below-pairs, lowered-rows}
 use Rattle.archive.proofs.Pairs.{length-moved}
-use Rattle.archive.proofs.Answers.{guard-yes, guard-no, rows-refused, rows-passed, leaves-refused, leaves-done, turned-down, known, Known}
+use Rattle.archive.proofs.Answers.{guard-yes, guard-no, rows-refused, rows-passed, leaves-refused, leaves-done, turned-down, known}
 
 -- Counted amounts over the records but one are those of the archive b that holds just these.
 pub amounts-gain : (w : List ℕ) (k : ℕ) (b : Archive) (t : Trial) (q before after : List ℕ) (r : ℕ) → b .shape ≡ read w .shape → b .rows ≡ leave-out k (read w .rows) → q ≡ point t → CountedJoints w k q before after r → r ≡ insert-gain b t
@@ -204,11 +205,6 @@ stored w w₁ w₂ w₃ kept t g h e₁ e₂ e₃ =
     (e₂ ∙ ap (λ k. take 8 w₁ ++ (records (place (λ r. r .trial) (record { trial = t; kept = k }) (rows-before w₁ (word w 0))) ++ drop (8 + 5 * (word w 0 + 1)) w₁)) (h .gained))
     (e₃ ∙ ap (λ k. set (set w₂ 0 (word w 0 + 1)) 5 (word w 5 + k)) (h .gained))
 
-pub either-left : (s t : Bool) → either s t ≡ false → s ≡ false
-unfolding either
-either-left true t e = e
-either-left false t e = refl
-
 -- Row 13, or what storing asks.
 module _ {w : List ℕ} {t : Trial} {after : List ℕ} {m : Moved} (h : Lowered w t after m) where
   pub overruns : m .fits ≡ false → insert-overruns (read w) t ≡ true
@@ -220,7 +216,7 @@ module _ {w : List ℕ} {t : Trial} {after : List ℕ} {m : Moved} (h : Lowered 
   pub storing : archive-rows w 0 ≡ 0 → word w 0 < word w 1 → m .fits ≡ true → Storing w t (m .amount) (take (word w 0) after)
   unfolding insert-overruns read
   storing p f e =
-      let within-box : ltb (box-of (read w)) (word w 5 + insert-gain (read w) t) ≡ false = either-left _ _ (fits-box e) in
+      let within-box : ltb (box-of (read w)) (word w 5 + insert-gain (read w) t) ≡ false = either-false _ _ (fits-box e) .0 in
       record {
         passes = p;
         free = f;

@@ -1,11 +1,11 @@
 -- A loop that writes a slice once, front to back: what it has written, between what stood before and behind it.
-use Prim.Native.Nat.{ℕ, zero, suc, _+_, _-_, _≤_, _<_}
+use Prim.Native.Nat.{ℕ, suc, _+_, _-_, _≤_, _<_}
 use mathlib.Core.Path.{_≡_, refl, sym, ap, ap₂, _∙_}
-use mathlib.Core.List.{List, [], _∷_, _++_, append-assoc}
-use native.Mathlib.Nat.{add-zero, add-assoc}
+use mathlib.Core.List.{List, _∷_, _++_, append-assoc, []}
+use native.Mathlib.Nat.{add-zero}
 use native.Mathlib.Numerals.{add-one, add-two, add-three, add-four}
 use native.Mathlib.Omega.{arith}
-use lib.ListN.{length, take, drop, set, length-append, length-take, length-drop, take-append-drop, replicate}
+use lib.ListN.{length, take, drop, set, length-append, length-drop, take-append-drop, replicate}
 use lib.Seq.{length-take-le, drop-cons, set-at}
 
 -- k words, `new`, stand from `at` on; all else is as in `old`.

@@ -3,10 +3,11 @@
 use Prim.Native.Nat.{ℕ, _+_, _-_, _≤_, _<_}
 use mathlib.Core.Bool.{Bool, true, false, not}
 use mathlib.Core.Path.{_≡_}
-use mathlib.Core.List.{List, [], _∷_, _++_, map}
+use mathlib.Core.List.{List, _∷_, _++_, map, []}
 use lib.ListN.{length, getD, take, drop}
 use Rattle.hypervolume.specs.Counts.{total, contributions, gain, joints}
-use Rattle.words.specs.Archive.{Trial, Row, Archive, trials, points, either}
+use Rattle.words.specs.Archive.{Trial, Row, Archive, trials, points}
+use Rattle.slices.specs.Choices.{either}
 use Rattle.words.specs.Layout.{read, word}
 use Rattle.words.specs.Format.{archive-rows}
 use Rattle.words.specs.Places.{row-at}

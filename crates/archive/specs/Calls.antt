@@ -2,12 +2,13 @@
 -- down after rows 1 to 3. Lent says what each of them answers and leaves in memory.
 use Prim.Native.Nat.{ℕ, zero, suc, _+_, _-_, _*_, _/_}
 use mathlib.Core.Bool.{Bool, true, false, not}
-use mathlib.Core.List.{List, [], _∷_, _++_, map}
-use lib.Dec.{leb, ltb, eqb}
+use mathlib.Core.List.{List, _∷_, _++_, map, []}
+use lib.Dec.{ltb, eqb}
 use lib.ListN.{length}
-use Rattle.hypervolume.specs.Cells.{both, holds, box}
+use Rattle.slices.specs.Choices.{both, pick, either}
+use Rattle.hypervolume.specs.Cells.{box}
 use Rattle.hypervolume.specs.Counts.{total, contribution, joint, gain}
-use Rattle.words.specs.Archive.{Trial, Row, Shape, Archive, point, reference, trials, points, pick, either, before}
+use Rattle.words.specs.Archive.{Trial, Row, Shape, Archive, point, reference, trials, points, before}
 use Rattle.words.specs.Format.{guard, number-allowed, coordinates-allowed, held}
 
 -- The trials an archive holds, its reference, and their points.

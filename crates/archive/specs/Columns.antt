@@ -1,7 +1,7 @@
 -- One field of consecutive records: how it lies in the words, and as a list. Used by the contracts of the inner
 -- functions; no exported contract cites it.
 use Prim.Native.Nat.{ℕ, zero, suc}
-use mathlib.Core.List.{List, [], _∷_, _++_, map}
+use mathlib.Core.List.{List, _∷_, _++_, map, []}
 use lib.ListN.{getD, take, drop}
 use Rattle.words.specs.Archive.{Row}
 use Rattle.words.specs.Layout.{record-words}

@@ -2,7 +2,7 @@
 -- before, the notes and the archive after. That a reduction is such drops stands in proofs/Drops.
 use Prim.Native.Nat.{ℕ, _+_, _≤_}
 use mathlib.Core.Path.{_≡_}
-use mathlib.Core.List.{List, [], _∷_, List·Memᴰ}
+use mathlib.Core.List.{List, _∷_, List·Memᴰ, []}
 use Rattle.words.specs.Archive.{Row, Archive}
 use Rattle.archive.specs.Calls.{removed}
 use Rattle.archive.specs.Counted.{IsCounted}

@@ -2,13 +2,12 @@
 -- are the definitions that the contracts cite, for any words and any arguments.
 use Prim.Native.Nat.{ℕ, zero, suc, _-_}
 use mathlib.Core.Path.{_≡_}
-use mathlib.Core.Bool.{Bool, true, false, not}
-use mathlib.Core.List.{List, [], _∷_, _++_}
+use mathlib.Core.Bool.{not}
+use mathlib.Core.List.{List, _++_, []}
 use lib.Dec.{ltb}
 use lib.ListN.{length, drop, getD}
 use Rattle.hypervolume.specs.Cells.{holds}
-use Rattle.hypervolume.specs.Counts.{gain}
-use Rattle.words.specs.Archive.{Trial, Row, Shape, Archive, point}
+use Rattle.words.specs.Archive.{Trial, Row, Shape}
 use Rattle.words.specs.Layout.{layout, read, extent, behind}
 use Rattle.words.specs.Format.{guard, shape-allowed, archive-rows}
 use Rattle.archive.specs.declared.Answer.{Answer}

@@ -1,6 +1,6 @@
 // Contributions moved by counted amounts, and whether they stay from 0 to the box (row 13).
 ghost use mathlib.Core.Path.{_≡_};
-ghost use mathlib.Core.Bool.{Bool, false, not};
+ghost use mathlib.Core.Bool.{false, not};
 ghost use Prim.Native.Nat.{_+_, _-_, _≤_};
 ghost use lib.Dec.{ltb, eqb};
 ghost use lib.ListN.{length};

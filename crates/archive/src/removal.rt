@@ -17,7 +17,7 @@ ghost use mathlib.Core.Path.{_≡_};
 ghost use mathlib.Core.List.{_++_};
 ghost use Prim.Native.Nat.{_≤_, _<_};
 ghost use lib.ListN.{length};
-ghost use Rattle.words.specs.Archive.{pick};
+ghost use Rattle.slices.specs.Choices.{pick};
 ghost use Rattle.words.specs.Layout.{word, layout, read, behind};
 ghost use Rattle.words.specs.Format.{guard, archive-rows};
 ghost use Rattle.words.specs.Places.{as-row, row-at};

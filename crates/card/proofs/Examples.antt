@@ -1,14 +1,15 @@
 -- Document 01's card prints its report.
 use Prim.Native.Nat.{ℕ}
 use mathlib.Core.Path.{_≡_, refl, ap, _∙_}
-use mathlib.Core.List.{List, [], _∷_}
+use mathlib.Core.List.{List, _∷_, []}
 use lib.ListN.{replicate, length-replicate}
-use Rattle.hypervolume.specs.Cells.{both, holds, dominates, sum, cells, count}
+use Rattle.slices.specs.Choices.{both, pick, either}
+use Rattle.hypervolume.specs.Cells.{holds, dominates, sum, cells, count}
 use Rattle.hypervolume.specs.Counts.{cover, joint, gain}
 use Rattle.text.specs.Fields.{isDigit, choose, decimal, number, field, fieldFrom}
 use Rattle.text.specs.Lines.{four, line}
 use Rattle.text.specs.Columns.{digits, justified, lineOf}
-use Rattle.words.specs.Archive.{Archive, trials, points, pick, either, ascends, before}
+use Rattle.words.specs.Archive.{Archive, trials, points, ascends, before}
 use Rattle.words.specs.Layout.{extent}
 use Rattle.words.specs.Format.{guard, within, shape-allowed, number-allowed, coordinates-allowed, held}
 use Rattle.words.proofs.Reading.{read-layout}

@@ -2,13 +2,13 @@
 use Prim.Native.Nat.{ℕ, _^_, _≤_, _<_}
 use mathlib.Core.Path.{_≡_, refl, sym, ap, _∙_}
 use mathlib.Core.Bool.{true}
-use mathlib.Core.List.{List, [], _∷_, _++_, append-assoc}
+use mathlib.Core.List.{List, _∷_, _++_, append-assoc, []}
 use native.Mathlib.Omega.{arith}
 use native.Mathlib.Nat.{le-trans, lt-of-le-of-lt}
 use lib.Dec.{lit≤, lit<}
 use lib.ListN.{length, take, drop}
 use lib.Seq.{take-at, drop-at}
-use Rattle.hypervolume.proofs.Tests.{both-true}
+use Rattle.slices.proofs.Choices.{both-true}
 use Rattle.text.specs.Columns.{justified}
 use Rattle.text.proofs.Columns.{length-justified, justified-injective}
 use Rattle.words.specs.Archive.{Row, Shape, Archive}

@@ -1,7 +1,7 @@
 -- What the report program prints (document 01, "Card and report").
 use Prim.Native.Nat.{ℕ, zero, suc, _≤_}
 use mathlib.Core.Path.{_≡_}
-use mathlib.Core.List.{List, [], _∷_, _++_}
+use mathlib.Core.List.{List, _∷_, _++_, []}
 use lib.ListN.{length, take, replicate}
 use Rattle.text.specs.Lines.{newline}
 use Rattle.text.specs.Columns.{justified}

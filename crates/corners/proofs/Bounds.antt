@@ -2,7 +2,7 @@
 use Prim.Native.Nat.{ℕ, zero, suc, _+_, _≤_, _<_, max}
 use mathlib.Core.Path.{_≡_, refl, sym, ap, _∙_}
 use mathlib.Core.Bool.{Bool, true, false}
-use mathlib.Core.List.{List, [], _∷_, _++_}
+use mathlib.Core.List.{List, _∷_, _++_, []}
 use native.Mathlib.Nat.{le-trans}
 use native.Mathlib.Numerals.{add-one}
 use native.Mathlib.Omega.{arith}
@@ -10,9 +10,11 @@ use lib.Dec.{leb, eqb}
 use lib.ListN.{length, take, drop, getD, set, take-append-drop}
 use lib.Seq.{take-suc}
 use borrow.Author.Tests.{leb-true, le-leb, eq-eqb, ne-eqb}
-use Rattle.hypervolume.specs.Cells.{both, holds, dominates}
+use Rattle.slices.specs.Choices.{both}
+use Rattle.hypervolume.specs.Cells.{holds, dominates}
 use Rattle.hypervolume.specs.Counts.{cover}
-use Rattle.hypervolume.proofs.Tests.{Compared, below, above, compared, holds-le-one, both-true, both-intro}
+use Rattle.hypervolume.proofs.Tests.{Compared, below, above, compared, holds-le-one}
+use Rattle.slices.proofs.Choices.{both-true, both-intro}
 use Rattle.hypervolume.proofs.Dominance.{cover-append}
 use Rattle.corners.specs.declared.limits.Two.{Two}
 use Rattle.sweep.specs.Points.{points, Small}

@@ -2,7 +2,7 @@
 use Prim.Native.Nat.{ℕ, zero, suc, _+_, _-_, _≤_, _<_, max}
 use mathlib.Core.Path.{_≡_, refl, sym, ap, _∙_}
 use mathlib.Core.Bool.{Bool, true, false}
-use mathlib.Core.List.{List, [], _∷_, _++_, map, append-nil, append-assoc}
+use mathlib.Core.List.{List, _∷_, _++_, map, append-nil, append-assoc, []}
 use native.Mathlib.Decide.{decLe}
 use native.Mathlib.Numerals.{add-one}
 use native.Mathlib.Omega.{arith}
@@ -10,8 +10,9 @@ use lib.ListN.{length, take, drop, getD, set, replicate, length-append, length-d
 use lib.Seq.{take-suc, take-suc-set, take-all, take-at, length-take-le, drop-cons, drop-at, drop-drop, set-at, getD-drop, getD-set-same, getD-set-other}
 use lib.Dec.{leb}
 use borrow.Author.Tests.{lt-leb}
-use Rattle.hypervolume.specs.Cells.{both, dominates, join}
-use Rattle.hypervolume.proofs.Tests.{both-comm}
+use Rattle.slices.specs.Choices.{both}
+use Rattle.hypervolume.specs.Cells.{dominates, join}
+use Rattle.slices.proofs.Choices.{both-comm}
 use Rattle.sweep.specs.Points.{points}
 use Rattle.corners.specs.Limits.{Alike, pick, kept, corners, Collecting, Raised, Stands, Collected}
 use Rattle.sweep.proofs.Coordinates.{points-length, points-at}

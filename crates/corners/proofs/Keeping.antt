@@ -2,12 +2,13 @@
 use Prim.Native.Nat.{ℕ, zero, suc, _+_, _≤_, _<_}
 use mathlib.Core.Path.{_≡_, refl, sym, ap, _∙_}
 use mathlib.Core.Bool.{Bool, true, false, not}
-use mathlib.Core.List.{List, [], _∷_, _++_, map}
+use mathlib.Core.List.{List, _∷_, _++_, map, []}
 use native.Mathlib.Omega.{arith}
 use lib.ListN.{length, getD, set}
-use Rattle.hypervolume.specs.Cells.{both, holds, dominates, join}
+use Rattle.slices.specs.Choices.{both}
+use Rattle.hypervolume.specs.Cells.{holds, dominates, join}
 use Rattle.hypervolume.specs.Counts.{cover, total, contribution}
-use Rattle.hypervolume.proofs.Tests.{both-true}
+use Rattle.slices.proofs.Choices.{both-true}
 use Rattle.hypervolume.proofs.Dominance.{dominates-join, cover-append}
 use Rattle.hypervolume.proofs.Counting.{SameCover, total-same, contribution-same, Twice}
 use Rattle.hypervolume.proofs.Skips.{Spare, total-skips, contribution-skips, contribution-spare, Beyond, beyond, moved-corner}

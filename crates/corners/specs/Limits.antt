@@ -2,7 +2,7 @@
 use Prim.Native.Nat.{ℕ, suc, _+_, _≤_, _<_, max}
 use mathlib.Core.Path.{_≡_}
 use mathlib.Core.Bool.{Bool, true, false}
-use mathlib.Core.List.{List, [], _∷_, map}
+use mathlib.Core.List.{List, _∷_, map, []}
 use lib.Dec.{leb}
 use lib.ListN.{length, take, getD, set}
 use Rattle.hypervolume.specs.Cells.{holds, dominates, join}

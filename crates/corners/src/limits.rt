@@ -7,7 +7,8 @@ ghost use mathlib.Core.List.{_++_};
 ghost use lib.Dec.{leb};
 ghost use Prim.Native.Nat.{_-_, _≤_};
 ghost use lib.ListN.{length, take, drop, replicate};
-ghost use Rattle.hypervolume.specs.Cells.{both, holds};
+ghost use Rattle.slices.specs.Choices.{both};
+ghost use Rattle.hypervolume.specs.Cells.{holds};
 ghost use Rattle.sweep.specs.Points.{points, Small};
 ghost use Rattle.corners.specs.Limits.{axesWithin, offer, twoWith, Alike, Limits, Collecting, Collected, Spreading, spread};
 

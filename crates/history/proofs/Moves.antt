@@ -7,7 +7,7 @@ use native.Mathlib.Omega.{arith}
 use lib.ListN.{length}
 use lib.Seq.{take-at}
 use borrow.Author.Tests.{ne-eqb, ltb-false, not-false}
-use Rattle.hypervolume.specs.Cells.{both}
+use Rattle.slices.specs.Choices.{both}
 use Rattle.words.specs.Layout.{read}
 use Rattle.words.specs.Format.{guard, archive-rows}
 use Rattle.words.proofs.Passed.{guard-none, passes-again}

@@ -4,15 +4,17 @@ use Prim.Native.Nat.{ℕ, suc}
 use mathlib.Core.Path.{_≡_, refl, sym, ap, _∙_}
 use mathlib.Core.Bool.{Bool, true, false}
 use mathlib.Core.Logic.{_⊎_, inl, inr}
-use mathlib.Core.List.{List, [], _∷_, map, List·Memᴰ, List·Memᴰ·head, List·Memᴰ·tail, List·Memᴰ·cases-cons}
+use mathlib.Core.List.{List, _∷_, map, List·Memᴰ, List·Memᴰ·head, List·Memᴰ·tail, List·Memᴰ·cases-cons, []}
 use native.Mathlib.Omega.{arith}
 use lib.Dec.{eqb}
 use lib.ListN.{length}
 use borrow.Author.Tests.{not-true, eq-eqb, ne-eqb}
 use Rattle.hypervolume.specs.Counts.{cover}
-use Rattle.hypervolume.proofs.Tests.{Equated, same, differs, equated, both-true}
+use Rattle.hypervolume.proofs.Tests.{Equated, same, differs, equated}
+use Rattle.slices.proofs.Choices.{both-true}
 use Rattle.hypervolume.proofs.Counting.{SameCover}
-use Rattle.words.specs.Archive.{Trial, Row, trials, points, pick, either, before}
+use Rattle.words.specs.Archive.{Trial, Row, trials, points, before}
+use Rattle.slices.specs.Choices.{pick, either}
 use Rattle.words.specs.Format.{held, distinct}
 use Rattle.archive.specs.Calls.{place, others}
 use Rattle.archive.proofs.Members.{map-map, map-id, place-length, place-member, member-place, place-cover}

@@ -2,12 +2,13 @@
 use Prim.Native.Nat.{ℕ}
 use mathlib.Core.Path.{_≡_, refl, ap, _∙_}
 use mathlib.Core.Bool.{false}
-use mathlib.Core.List.{List, [], _∷_, _++_}
+use mathlib.Core.List.{List, _∷_, _++_, []}
 use lib.ListN.{replicate}
-use Rattle.hypervolume.specs.Cells.{both, holds, dominates, sum, cells, count, box, edges}
+use Rattle.slices.specs.Choices.{both, pick, either}
+use Rattle.hypervolume.specs.Cells.{holds, dominates, sum, cells, count, box, edges}
 use Rattle.hypervolume.specs.Counts.{cover, total, contribution, joint, gain}
 use Rattle.hypervolume.proofs.Counting.{gain-first}
-use Rattle.words.specs.Archive.{Trial, Shape, Archive, trials, points, pick, either, ascends, before}
+use Rattle.words.specs.Archive.{Trial, Shape, Archive, trials, points, ascends, before}
 use Rattle.words.specs.Layout.{header, record-words, records, extent, layout, read-row, read-rows, read-shape, read, behind}
 use Rattle.words.specs.Format.{guard, within, shape-allowed, number-allowed, coordinates-allowed, header-allowed, row-allowed, rows-allowed, ordered, held, distinct, zeros, unused, records-allowed, archive-rows}
 use Rattle.archive.specs.Calls.{empty, place, insert-gain, joint-with, lowered, inserted, falls-below, insert-overruns, insert-rows, admission-rows, row-of, others, without, removal-loss, raised, removed, exceeds, remove-overruns, remove-rows, goes-first, least-from, least-row, least-rows, joint-of, joint-rows, gain-rows, share-of, rows-counted, audited, dropped, note, after-drops, notes, reduce-rows}

@@ -3,15 +3,16 @@
 use Prim.Native.Nat.{ℕ, suc, _+_, _-_, _*_, _≤_, _<_, min}
 use mathlib.Core.Path.{_≡_, refl, sym, ap, _∙_}
 use mathlib.Core.Bool.{Bool, true, false, not, true≢false}
-use mathlib.Core.List.{List, [], _++_, append-assoc}
+use mathlib.Core.List.{List, _++_, append-assoc, []}
 use native.Mathlib.Omega.{arith}
 use lib.Dec.{leb, ltb, eqb}
 use lib.ListN.{length, take, drop, length-append, take-append-drop}
 use lib.Seq.{take-append-add, drop-append-add}
 use borrow.Author.Tests.{lt-ltb, le-ltb, ltb-false, not-false, eqb-false}
-use Rattle.hypervolume.specs.Cells.{both}
+use Rattle.slices.proofs.Choices.{not-both}
+use Rattle.slices.specs.Choices.{both, either}
 use Rattle.hypervolume.proofs.Tests.{Compared, below, above, compared}
-use Rattle.words.specs.Archive.{Trial, Shape, Archive, either}
+use Rattle.words.specs.Archive.{Trial, Shape, Archive}
 use Rattle.words.specs.Layout.{header, layout, extent, word, read, behind}
 use Rattle.words.specs.Format.{guard, within, number-allowed, coordinates-allowed, held, archive-rows}
 use Rattle.words.proofs.Reading.{read-layout, length-layout, behind-layout}
@@ -78,11 +79,6 @@ not-leb m n = go (leb m n) (compared m n)
     go : (x : Bool) → Compared m n x → not x ≡ ltb n m
     go true (below l) = sym (le-ltb n m l)
     go false (above l) = sym (lt-ltb n m l)
-
-not-both : (x y : Bool) → not (both x y) ≡ either (not x) (not y)
-unfolding both either
-not-both true y = refl
-not-both false y = refl
 
 row-5 : (n : ℕ) → not (number-allowed n) ≡ either (ltb n 1) (ltb 9999999 n)
 unfolding number-allowed within

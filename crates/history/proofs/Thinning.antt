@@ -3,13 +3,14 @@ use Prim.Native.Nat.{ℕ, zero, suc, _≤_, _<_}
 use mathlib.Core.Path.{_≡_, refl, sym, ap, _∙_}
 use mathlib.Core.Bool.{Bool, true, false}
 use mathlib.Core.Logic.{inl, inr}
-use mathlib.Core.List.{List, [], _∷_, map}
+use mathlib.Core.List.{List, _∷_, map, []}
 use native.Mathlib.Omega.{arith}
 use lib.Dec.{ltb}
 use lib.ListN.{length, length-map}
 use Rattle.hypervolume.proofs.Tests.{Compared, below, above, compared}
 use Rattle.hypervolume.proofs.Counting.{contribution-same}
-use Rattle.words.specs.Archive.{Trial, Row, point, points, pick}
+use Rattle.words.specs.Archive.{Trial, Row, point, points}
+use Rattle.slices.specs.Choices.{pick}
 use Rattle.words.specs.Format.{held, distinct}
 use Rattle.words.proofs.Passed.{Sound}
 use Rattle.archive.specs.Calls.{held-trials, without, removed, least-row, dropped, note, after-drops, notes}

@@ -4,11 +4,12 @@
 -- shares with the archive's definitions only what a trial is, the counts of cells and plain connectives.
 use Prim.Native.Nat.{ℕ, zero, suc, _+_, _-_, _*_}
 use mathlib.Core.Bool.{Bool, true, false, not}
-use mathlib.Core.List.{List, [], _∷_, _++_, map}
+use mathlib.Core.List.{List, _∷_, _++_, map, []}
 use lib.Dec.{ltb, eqb}
 use lib.ListN.{length}
 use Rattle.hypervolume.specs.Counts.{contribution}
-use Rattle.words.specs.Archive.{Trial, point, pick, either}
+use Rattle.words.specs.Archive.{Trial, point}
+use Rattle.slices.specs.Choices.{pick, either}
 
 -- "It keeps a reference, a capacity and the surviving trials, a number and a point each." The trials stand as they
 -- were entered, the last in front.

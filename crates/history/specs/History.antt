@@ -2,7 +2,7 @@
 -- the definitions that the contracts of the calls cite (Rattle.archive.specs.Lent), so the claim speaks of the code.
 use Prim.Native.Nat.{ℕ, min}
 use mathlib.Core.Path.{_≡_}
-use mathlib.Core.List.{List, [], _∷_, _++_}
+use mathlib.Core.List.{List, _∷_, _++_, []}
 use lib.ListN.{length, take, drop}
 use Rattle.words.specs.Archive.{Trial, Shape, Archive}
 use Rattle.words.specs.Layout.{layout, extent}

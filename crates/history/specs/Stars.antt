@@ -2,7 +2,7 @@
 -- with * are to be proved; 10 stands here too.
 use Prim.Native.Nat.{ℕ}
 use mathlib.Core.Path.{_≡_}
-use mathlib.Core.List.{List, [], _∷_}
+use mathlib.Core.List.{List, _∷_, []}
 use lib.ListN.{replicate}
 use Rattle.words.specs.Archive.{Shape}
 use Rattle.words.specs.Layout.{word, read, extent}

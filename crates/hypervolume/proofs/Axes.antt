@@ -1,19 +1,19 @@
 -- Law 7, the outermost axis: among points that are at most p on the first axis, each count of p is the edge on
 -- that axis times the count on the other axes. Law 8, its last part: two adjacent axes may be swapped, so that
 -- any axis can be made the first.
-use Prim.Native.Nat.{ℕ, zero, suc, _+_, _-_, _*_, _≤_, _<_, zero-le}
-use mathlib.Core.Path.{_≡_, refl, sym, ap, _∙_, fun-ext}
+use Prim.Native.Nat.{ℕ, zero, suc, _+_, _-_, _*_, _≤_, _<_}
+use mathlib.Core.Path.{_≡_, refl, ap, _∙_}
 use mathlib.Core.Bool.{Bool, true, false}
-use mathlib.Core.List.{List, [], _∷_, _++_, map}
-use native.Mathlib.Nat.{zero-add, add-zero, le-trans, le-refl}
+use mathlib.Core.List.{List, _∷_, _++_, map, []}
+use native.Mathlib.Nat.{le-trans, le-refl}
 use native.Mathlib.Omega.{arith}
-use lib.Dec.{leb, eqb}
+use lib.Dec.{leb}
 use lib.ListN.{length}
-use borrow.Author.Tests.{leb-true, le-leb, lt-leb}
-use Rattle.hypervolume.specs.Cells.{both, holds, dominates, sum, cells, count}
+use borrow.Author.Tests.{le-leb, lt-leb}
+use Rattle.slices.specs.Choices.{both}
+use Rattle.hypervolume.specs.Cells.{holds, dominates, cells, count}
 use Rattle.hypervolume.specs.Counts.{cover, total, contribution, joint, gain}
 use Rattle.hypervolume.proofs.Sums.{sum-ext, sum-swap, cells-ext}
-use Rattle.hypervolume.proofs.Tests.{both-comm, both-assoc}
 use Rattle.hypervolume.proofs.Dominance.{first, rest, dominates-cons}
 use Rattle.hypervolume.proofs.Counting.{layered}
 

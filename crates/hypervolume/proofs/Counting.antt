@@ -1,19 +1,20 @@
 -- The laws of the counts (1 to 6 and 8 of the design), for any number of axes. Each is a pointwise fact about
 -- a cell, by cases on what dominates it, pushed through the sum over the cells.
-use Prim.Native.Nat.{ℕ, zero, suc, _+_, _-_, _*_, _≤_, _<_, zero-le}
+use Prim.Native.Nat.{ℕ, zero, suc, _+_, _-_, _*_, _≤_, _<_}
 use mathlib.Core.Path.{_≡_, refl, sym, ap, _∙_, fun-ext}
 use mathlib.Core.Bool.{Bool, true, false}
-use mathlib.Core.List.{List, [], _∷_, _++_, map}
+use mathlib.Core.List.{List, _∷_, _++_, map, []}
 use native.Mathlib.Nat.{zero-add, add-zero, sub-zero, zero-mul}
 use native.Mathlib.Decide.{decLe}
 use native.Mathlib.Numerals.{one-add}
 use native.Mathlib.Omega.{arith}
 use lib.Dec.{leb, eqb, eqb·suc-suc}
-use borrow.Author.Tests.{leb-true, le-leb, lt-leb, eq-eqb, ne-eqb}
-use Rattle.hypervolume.specs.Cells.{both, holds, dominates, join, sum, cells, count, box, edges}
-use Rattle.hypervolume.specs.Counts.{cover, total, contribution, joint, gain, contributions, joints}
+use borrow.Author.Tests.{le-leb, lt-leb, ne-eqb}
+use Rattle.slices.specs.Choices.{both}
+use Rattle.hypervolume.specs.Cells.{holds, dominates, join, sum, cells, count, box, edges}
+use Rattle.hypervolume.specs.Counts.{cover, total, contribution, joint, gain}
 use Rattle.hypervolume.proofs.Sums.{sum-none, sum-steady, cells-ext, cells-add, cells-le, cells-none}
-use Rattle.hypervolume.proofs.Tests.{Compared, below, above, compared, Equated, same, differs, equated, holds-le-one, both-le-left}
+use Rattle.hypervolume.proofs.Tests.{holds-le-one}
 use Rattle.hypervolume.proofs.Dominance.{dominates-join, within, cover-append, cover-joins, Among, atMost, atMost-dominates}
 
 -- Counts respect equality, sums and order.

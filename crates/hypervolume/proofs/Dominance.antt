@@ -1,17 +1,19 @@
 -- Laws of dominance: axis by axis, at the upper corner, and through an at most equal point; and how many of
 -- a list of points dominate a cell.
-use Prim.Native.Nat.{ℕ, zero, suc, _+_, _*_, _≤_, _<_, zero-le}
-use mathlib.Core.Path.{_≡_, refl, sym, ap, _∙_}
+use Prim.Native.Nat.{ℕ, zero, suc, _+_, _≤_, _<_, zero-le}
+use mathlib.Core.Path.{_≡_, refl, sym, _∙_}
 use mathlib.Core.Bool.{Bool, true, false}
-use mathlib.Core.List.{List, [], _∷_, _++_, map, List·Memᴰ, List·Memᴰ·head, List·Memᴰ·tail}
-use native.Mathlib.Nat.{zero-add, add-zero, add-assoc, le-trans}
+use mathlib.Core.List.{List, _∷_, _++_, map, List·Memᴰ, List·Memᴰ·head, List·Memᴰ·tail, []}
+use native.Mathlib.Nat.{zero-add, add-assoc, le-trans}
 use native.Mathlib.Omega.{arith}
 use lib.Dec.{leb}
 use lib.ListN.{length, getD}
 use borrow.Author.Tests.{leb-true, le-leb}
-use Rattle.hypervolume.specs.Cells.{both, holds, dominates, join}
+use Rattle.slices.specs.Choices.{both}
+use Rattle.hypervolume.specs.Cells.{holds, dominates, join}
 use Rattle.hypervolume.specs.Counts.{cover}
-use Rattle.hypervolume.proofs.Tests.{leb-max, both-comm, both-true, both-intro}
+use Rattle.hypervolume.proofs.Tests.{leb-max}
+use Rattle.slices.proofs.Choices.{both-comm, both-true, both-intro}
 
 -- The first coordinate, and the coordinates on the other axes; an axis that a point lacks counts as 0.
 unfoldable pub first : List ℕ → ℕ

@@ -2,9 +2,10 @@
 -- by the laws, where a count cell by cell cannot be had.
 use Prim.Native.Nat.{ℕ}
 use mathlib.Core.Path.{_≡_, refl, _∙_}
-use mathlib.Core.List.{List, [], _∷_}
-use Rattle.hypervolume.specs.Cells.{both, holds, dominates, join, sum, cells, count, box, edges}
-use Rattle.hypervolume.specs.Counts.{cover, total, contribution, joint, gain, contributions}
+use mathlib.Core.List.{List, _∷_, []}
+use Rattle.slices.specs.Choices.{both}
+use Rattle.hypervolume.specs.Cells.{holds, dominates, sum, cells, count, edges}
+use Rattle.hypervolume.specs.Counts.{cover, total, contribution, joint, contributions}
 use Rattle.hypervolume.proofs.Counting.{total-more, total-none, gain-first}
 
 four : List ℕ

@@ -2,7 +2,7 @@
 use Prim.Native.Nat.{ℕ, zero, suc, _+_, _-_, _*_, _^_, _≤_, _<_, max}
 use mathlib.Core.Path.{_≡_, refl, sym, ap, _∙_}
 use mathlib.Core.Bool.{true, false}
-use mathlib.Core.List.{List, [], _∷_}
+use mathlib.Core.List.{List, _∷_, []}
 use native.Mathlib.Nat.{one-mul, mul-one, mul-assoc, mul-le-mul, pow-suc, pow-le-pow-right}
 use native.Mathlib.Numerals.{add-one}
 use native.Mathlib.Omega.{arith}
@@ -10,7 +10,8 @@ use lib.Dec.{leb}
 use lib.ListN.{length, getD, drop, set}
 use lib.Seq.{drop-cons, drop-length}
 use borrow.Author.Tests.{le-leb, lt-leb}
-use Rattle.hypervolume.specs.Cells.{both, dominates, join, edges}
+use Rattle.slices.specs.Choices.{both}
+use Rattle.hypervolume.specs.Cells.{dominates, join, edges}
 
 -- Two points of n axes, of which the first have been gone through.
 pub record Along (n : ℕ) (p q : List ℕ) (axis : ℕ) : Type 0 where

@@ -3,15 +3,16 @@
 use Prim.Native.Nat.{ℕ, zero, suc, _≤_, _<_}
 use mathlib.Core.Path.{_≡_, refl, _∙_}
 use mathlib.Core.Bool.{Bool, true, false}
-use mathlib.Core.List.{List, [], _∷_, _++_}
+use mathlib.Core.List.{List, _∷_, _++_, []}
 use native.Mathlib.Nat.{le-trans}
 use native.Mathlib.Omega.{arith}
 use lib.Dec.{leb, eqb}
 use lib.ListN.{length, getD, set, length-set}
 use borrow.Author.Tests.{leb-true, leb-false, le-leb, ne-eqb}
-use Rattle.hypervolume.specs.Cells.{both, dominates, join}
+use Rattle.slices.specs.Choices.{both}
+use Rattle.hypervolume.specs.Cells.{dominates, join}
 use Rattle.hypervolume.specs.Counts.{cover, total, contribution}
-use Rattle.hypervolume.proofs.Tests.{both-true, both-intro}
+use Rattle.slices.proofs.Choices.{both-true, both-intro}
 use Rattle.hypervolume.proofs.Dominance.{dominates-join, cover-append}
 use Rattle.hypervolume.proofs.Counting.{count-none, Twice, total-twice, contribution-twice}
 

@@ -2,8 +2,8 @@
 -- additive, may be exchanged, and a stretch on which the summand is constant is a product (law 9).
 use Prim.Native.Nat.{ℕ, zero, suc, _+_, _-_, _*_, _≤_, _<_, zero-le}
 use mathlib.Core.Path.{_≡_, refl, sym, ap, _∙_, fun-ext}
-use mathlib.Core.List.{List, [], _∷_}
-use native.Mathlib.Nat.{add-zero, zero-add, mul-zero, zero-mul, sub-self, mul-add, le-refl, add-le-add, le-of-lt, suc-mul}
+use mathlib.Core.List.{List, _∷_, []}
+use native.Mathlib.Nat.{add-zero, mul-zero, zero-mul, sub-self, suc-mul}
 use native.Mathlib.Decide.{decLe}
 use native.Mathlib.Omega.{arith}
 use Rattle.hypervolume.specs.Cells.{sum, cells}

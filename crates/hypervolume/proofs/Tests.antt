@@ -1,13 +1,13 @@
 -- What a test of a cell comes to as a number, over plain variables: the pointwise half of every law of counts.
-use Prim.Native.Nat.{ℕ, zero, suc, _+_, _≤_, _<_, max}
-use mathlib.Core.Path.{_≡_, refl, sym, ap, _∙_}
+use Prim.Native.Nat.{ℕ, _≤_, _<_, max}
+use mathlib.Core.Path.{_≡_, refl}
 use mathlib.Core.Bool.{Bool, true, false}
-use mathlib.Core.Logic.{_⊎_, inl, inr, ⊎-elim}
-use native.Mathlib.Nat.{zero-add, add-zero, le-max-left, le-max-right, max-le}
+use native.Mathlib.Nat.{le-max-left, le-max-right, max-le}
 use native.Mathlib.Omega.{arith}
 use lib.Dec.{leb, eqb}
-use borrow.Author.Tests.{leb-true, leb-false, eqb-true, eqb-false, le-leb, lt-leb, eq-eqb, ne-eqb}
-use Rattle.hypervolume.specs.Cells.{both, holds}
+use borrow.Author.Tests.{leb-true, leb-false, eqb-true, eqb-false, le-leb, lt-leb}
+use Rattle.slices.specs.Choices.{both}
+use Rattle.hypervolume.specs.Cells.{holds}
 
 -- A comparison tells one of two things.
 pub data Compared (a b : ℕ) : Bool → Type 0 where
@@ -50,27 +50,6 @@ unfolding both holds
 both-le-right true t = omega arith
 both-le-right false true = omega arith
 both-le-right false false = omega arith
-
-pub both-comm : (s t : Bool) → both s t ≡ both t s
-unfolding both
-both-comm true true = refl
-both-comm true false = refl
-both-comm false true = refl
-both-comm false false = refl
-
-pub both-assoc : (s t u : Bool) → both (both s t) u ≡ both s (both t u)
-unfolding both
-both-assoc true t u = refl
-both-assoc false t u = refl
-
-pub both-true : (s t : Bool) → both s t ≡ true → (s ≡ true) × (t ≡ true)
-unfolding both
-both-true true t e = (refl, e)
-both-true false t e = (e, absurd (let z : _≡_ {A = ℕ} 0 1 = cc in omega arith))
-
-pub both-intro : (s t : Bool) → s ≡ true → t ≡ true → both s t ≡ true
-unfolding both
-both-intro s t p q = rw (p, q)
 
 -- Two bounds on a coordinate are a bound by the larger.
 pub leb-max : (x y i : ℕ) → leb (max x y) i ≡ both (leb x i) (leb y i)

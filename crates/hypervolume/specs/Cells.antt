@@ -3,13 +3,9 @@
 -- Where one of two lists is shorter, the axes that it lacks are not compared.
 use Prim.Native.Nat.{ℕ, zero, suc, _+_, _-_, _*_, max}
 use mathlib.Core.Bool.{Bool, true, false}
-use mathlib.Core.List.{List, [], _∷_}
+use mathlib.Core.List.{List, _∷_, []}
 use lib.Dec.{leb}
-
--- Both of two tests.
-unfoldable pub both : Bool → Bool → Bool
-both true b = b
-both false b = false
+use Rattle.slices.specs.Choices.{both}
 
 -- A test as a number, so that tests can be added up: 1 where it holds.
 unfoldable pub holds : Bool → ℕ

@@ -1,7 +1,7 @@
 -- The points that three lists of coordinates hold, and the same points with the axes in the order z, x, y.
 use Prim.Native.Nat.{ℕ, zero, suc, _<_}
 use mathlib.Core.Path.{_≡_, refl, ap, _∙_}
-use mathlib.Core.List.{List, [], _∷_, map}
+use mathlib.Core.List.{List, _∷_, map, []}
 use native.Mathlib.Omega.{arith}
 use lib.ListN.{length, getD}
 use Rattle.hypervolume.specs.Counts.{total, contribution}

@@ -3,7 +3,7 @@
 use Prim.Native.Nat.{ℕ, zero, suc, _+_, _-_, _*_, _^_, _≤_, _<_, max, min}
 use mathlib.Core.Path.{_≡_, refl, sym, ap, _∙_}
 use mathlib.Core.Bool.{Bool, true, false}
-use mathlib.Core.List.{List, [], _∷_}
+use mathlib.Core.List.{List, _∷_, []}
 use native.Mathlib.Nat.{add-zero, zero-mul, mul-zero, sub-zero, mul-le-mul, mul-le-mul-left, mul-add}
 use native.Mathlib.Decide.{decLe, ℕ-discrete}
 use native.Mathlib.Numerals.{add-one}
@@ -13,9 +13,11 @@ use lib.ListN.{length, take, getD, set, length-set}
 use lib.Seq.{set-getD, getD-set-same, getD-set-other, take-suc}
 use borrow.Author.Tests.{le-leb, lt-leb, ne-eqb}
 use borrow.Author.Count.{below-more}
-use Rattle.hypervolume.specs.Cells.{both, holds, dominates, sum, cells, count}
+use Rattle.slices.specs.Choices.{both}
+use Rattle.hypervolume.specs.Cells.{holds, dominates, sum, cells, count}
 use Rattle.hypervolume.proofs.Sums.{sum-ext, sum-le, sum-const, sum-none, sum-steady}
-use Rattle.hypervolume.proofs.Tests.{Compared, below, compared, both-comm, holds-le-one}
+use Rattle.hypervolume.proofs.Tests.{Compared, below, compared, holds-le-one}
+use Rattle.slices.proofs.Choices.{both-comm}
 use Rattle.sweep.specs.declared.column.Column.{Column}
 use Rattle.sweep.specs.Line.{xOf, yOf, indexOf, low, lowBy, over, overBy, gainOver, sharedWith, Rising}
 use Rattle.sweep.specs.Strips.{columnWith, Standing, alone, shared, Settling, Settled, Crossing, Crossed}

@@ -3,15 +3,17 @@
 use Prim.Native.Nat.{ℕ, _+_, _-_, _≤_, _<_}
 use mathlib.Core.Path.{_≡_, refl, sym, ap, _∙_}
 use mathlib.Core.Bool.{Bool, true, false}
-use mathlib.Core.List.{List, [], _∷_, _++_, append-assoc}
+use mathlib.Core.List.{List, _∷_, _++_, append-assoc, []}
 use native.Mathlib.Nat.{zero-add}
 use native.Mathlib.Omega.{arith}
 use lib.Dec.{leb, eqb}
 use lib.ListN.{length, take, drop, getD}
 use lib.Seq.{length-take-le, getD-take, take-at, drop-at, drop-drop}
 use borrow.Author.Tests.{leb-true}
-use Rattle.hypervolume.specs.Cells.{both, holds, dominates}
-use Rattle.hypervolume.proofs.Tests.{Compared, below, above, compared, both-true, both-comm}
+use Rattle.slices.specs.Choices.{both}
+use Rattle.hypervolume.specs.Cells.{holds, dominates}
+use Rattle.hypervolume.proofs.Tests.{Compared, below, above, compared}
+use Rattle.slices.proofs.Choices.{both-true, both-comm}
 use Rattle.sweep.specs.declared.column.Column.{Column}
 use Rattle.sweep.specs.Line.{tally, flagged, spot, xOf, yOf, indexOf, over, overBy, low, Rising, FlagRight, Flagged, AlikeAt, insertAt}
 use Rattle.sweep.specs.Strips.{Standing}

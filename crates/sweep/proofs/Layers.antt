@@ -2,7 +2,7 @@
 use Prim.Native.Nat.{ℕ, zero, suc, _+_, _-_, _*_, _≤_, _<_, min}
 use mathlib.Core.Path.{_≡_, refl, sym, ap, _∙_}
 use mathlib.Core.Bool.{Bool, true, false}
-use mathlib.Core.List.{List, [], _∷_, _++_, map, map-append}
+use mathlib.Core.List.{List, _∷_, _++_, map, map-append, []}
 use native.Mathlib.Nat.{zero-add, add-zero, add-comm}
 use native.Mathlib.Decide.{decLe}
 use native.Mathlib.Numerals.{one-add, add-one}
@@ -11,10 +11,12 @@ use lib.Dec.{leb, eqb, eqb·suc-suc}
 use lib.ListN.{length, getD, length-append, List·getD-append}
 use lib.Seq.{getD-append-seam}
 use borrow.Author.Tests.{eq-eqb, ne-eqb}
-use Rattle.hypervolume.specs.Cells.{both, holds, dominates, cells, count}
+use Rattle.slices.specs.Choices.{both}
+use Rattle.hypervolume.specs.Cells.{holds, dominates, cells, count}
 use Rattle.hypervolume.specs.Counts.{cover, total, contribution, gain, joint}
 use Rattle.hypervolume.proofs.Sums.{sum-ext}
-use Rattle.hypervolume.proofs.Tests.{Equated, same, differs, equated, both-comm}
+use Rattle.hypervolume.proofs.Tests.{Equated, same, differs, equated}
+use Rattle.slices.proofs.Choices.{both-comm}
 use Rattle.hypervolume.proofs.Dominance.{first, rest, cover-append, among-at}
 use Rattle.hypervolume.proofs.Counting.{count-none, SameCover, total-same, total-more, contribution-same, contribution-new, contribution-more}
 use Rattle.hypervolume.proofs.Axes.{FirstAtMost, gain-layers, joint-layers}

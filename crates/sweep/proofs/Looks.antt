@@ -9,8 +9,8 @@ use lib.Dec.{leb, eqb}
 use lib.ListN.{length, take, drop, getD, take-append-drop}
 use lib.Seq.{drop-cons, drop-length}
 use borrow.Author.Tests.{leb-true, eqb-true}
-use Rattle.hypervolume.specs.Cells.{both}
-use Rattle.hypervolume.proofs.Tests.{both-true}
+use Rattle.slices.specs.Choices.{both}
+use Rattle.slices.proofs.Choices.{both-true}
 use Rattle.sweep.specs.declared.column.Column.{Column}
 use Rattle.sweep.specs.Line.{yOf, indexOf, flagOf, Flagged}
 use Rattle.sweep.specs.Strips.{columnWith, Standing, Seen}

@@ -2,15 +2,16 @@
 use Prim.Native.Nat.{ℕ, suc, _+_, _≤_, _<_}
 use mathlib.Core.Path.{_≡_, refl, sym, ap, _∙_}
 use mathlib.Core.Bool.{Bool, true, false}
-use mathlib.Core.List.{List, [], _∷_, _++_}
+use mathlib.Core.List.{List, _∷_, _++_, []}
 use native.Mathlib.Nat.{zero-add, add-zero, add-assoc}
 use native.Mathlib.Omega.{arith}
 use lib.Dec.{leb}
 use lib.ListN.{length, take, drop, getD, take-append-drop, length-take, length-drop}
 use lib.Seq.{getD-take, getD-drop}
 use borrow.Author.Tests.{le-leb, lt-leb}
-use Rattle.hypervolume.specs.Cells.{both, holds, dominates}
-use Rattle.hypervolume.proofs.Tests.{both-comm}
+use Rattle.slices.specs.Choices.{both}
+use Rattle.hypervolume.specs.Cells.{holds, dominates}
+use Rattle.slices.proofs.Choices.{both-comm}
 use Rattle.sweep.specs.Line.{tally, spot, xOf, yOf}
 
 pub tally-append : (test : ℕ → Bool) (s t : List ℕ) → tally test (s ++ t) ≡ tally test s + tally test t

@@ -4,7 +4,7 @@
 use Prim.Native.Nat.{ℕ, zero, suc, _+_, _-_, _≤_, _<_, min}
 use mathlib.Core.Path.{_≡_, refl, sym, ap, _∙_}
 use mathlib.Core.Bool.{Bool, true, false}
-use mathlib.Core.List.{List, [], _∷_, _++_, append-assoc, append-nil}
+use mathlib.Core.List.{List, _∷_, _++_, append-assoc, append-nil, []}
 use native.Mathlib.Nat.{zero-add}
 use native.Mathlib.Numerals.{add-one}
 use native.Mathlib.Decide.{decLe, ℕ-discrete}
@@ -13,8 +13,9 @@ use lib.Dec.{leb, eqb}
 use lib.ListN.{length, take, drop, getD, set, length-append, length-take, length-drop, length-set, take-append-drop, drop-of-length-le}
 use lib.Seq.{append-snoc, drop-cons, drop-append-le, getD-take, getD-drop, take-take, take-nil, drop-drop, length-take-le, take-set-le, drop-set-lt, take-suc-set}
 use borrow.Author.Tests.{le-leb}
-use Rattle.hypervolume.specs.Cells.{both, holds, dominates}
-use Rattle.hypervolume.proofs.Tests.{both-comm}
+use Rattle.slices.specs.Choices.{both}
+use Rattle.hypervolume.specs.Cells.{holds, dominates}
+use Rattle.slices.proofs.Choices.{both-comm}
 use Rattle.hypervolume.proofs.Dominance.{first, rest, atMost, atMost-dominates}
 use Rattle.sweep.specs.Line.{tally, flagged, spot, xOf, yOf, indexOf, flagOf, over, overBy, low, Rising, FlagRight, Flagged, AlikeAt}
 use Rattle.sweep.specs.Entries.{Below, Thinned, Thinning, Walked}

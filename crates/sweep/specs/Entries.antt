@@ -2,7 +2,7 @@
 use Prim.Native.Nat.{ℕ, _+_, _-_, _≤_, _<_}
 use mathlib.Core.Path.{_≡_}
 use mathlib.Core.Bool.{Bool, true, false}
-use mathlib.Core.List.{List, [], _∷_, _++_}
+use mathlib.Core.List.{List, _∷_, _++_, []}
 use lib.ListN.{length, take, drop, getD}
 use Rattle.sweep.specs.Line.{xOf, indexOf, flagOf, Rising, Flagged, Kept, Ranked, AlikeAt, Alike, insertAt}
 

@@ -1,7 +1,7 @@
 -- The lists that the sweep takes: a list of coordinates for each axis.
 use Prim.Native.Nat.{ℕ, suc, _≤_, _<_}
 use mathlib.Core.Path.{_≡_}
-use mathlib.Core.List.{List, [], _∷_}
+use mathlib.Core.List.{List, _∷_, []}
 use lib.ListN.{length, getD}
 
 -- "A point is three whole numbers, one for each axis, called x, y, z."

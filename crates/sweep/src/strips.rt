@@ -1,9 +1,9 @@
 // One pass along the line, for the next point p. Between neighbouring x's the columns of cells are alike, so each such
 // strip is settled by one product.
-ghost use mathlib.Core.Path.{_≡_};
 ghost use mathlib.Core.List.{[]};
+ghost use mathlib.Core.Path.{_≡_};
 ghost use lib.Dec.{leb, eqb};
-ghost use Rattle.hypervolume.specs.Cells.{both};
+ghost use Rattle.slices.specs.Choices.{both};
 ghost use Rattle.sweep.specs.Line.{yOf, flagOf, Flagged};
 ghost use Rattle.sweep.specs.Strips.{Seen, Settling, Settled, Crossing, Crossed};
 use crate::column::Column;

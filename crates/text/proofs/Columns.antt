@@ -3,7 +3,7 @@
 use Prim.Native.Nat.{ℕ, zero, suc, _+_, _-_, _*_, _/_, _%_, _^_, _≤_, _<_}
 use mathlib.Core.Path.{_≡_, refl, sym, ap, _∙_}
 use mathlib.Core.Bool.{Bool, true, false}
-use mathlib.Core.List.{List, [], _∷_, _++_, append-nil}
+use mathlib.Core.List.{List, _∷_, _++_, append-nil, []}
 use mathlib.Core.Option.{none, some}
 use native.Mathlib.Nat.{pow-suc, div-lt-iff-lt-mul, sub-self}
 use native.Mathlib.Decide.{decLt}

@@ -1,7 +1,7 @@
 -- Worked examples of the definitions, computed: fields of each kind, document 01's first card line, columns.
 use Prim.Native.Nat.{ℕ}
 use mathlib.Core.Path.{_≡_, refl}
-use mathlib.Core.List.{List, [], _∷_, _++_}
+use mathlib.Core.List.{List, _∷_, _++_, []}
 use mathlib.Core.Option.{none, some}
 use lib.ListN.{replicate}
 use Rattle.text.specs.Fields.{space, digit, isDigit, choose, decimal, number, field, fieldFrom}

@@ -1,7 +1,7 @@
 -- Columns (document 01, "Card and report"): "its numbers are justified as on a card". The column of a number that
 -- fits is the one field of its width with the number's value (proofs/Columns: field-justified, justified-field).
 use Prim.Native.Nat.{ℕ, zero, suc, _+_, _-_, _/_, _%_, _≤_}
-use mathlib.Core.List.{List, [], _∷_, _++_}
+use mathlib.Core.List.{List, _∷_, _++_, []}
 use lib.Dec.{ltb}
 use lib.ListN.{length, take, drop, replicate}
 use Rattle.text.specs.Fields.{space, digit, choose}

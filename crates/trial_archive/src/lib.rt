@@ -5,7 +5,7 @@ use archive::LeastAnswer;
 use card::Loaded;
 use hypervolume::Point;
 ghost use mathlib.Core.Path.{_≡_};
-ghost use mathlib.Core.List.{List, _∷_, []};
+ghost use mathlib.Core.List.{_∷_, []};
 ghost use Rattle.archive.specs.Lent.{start, insert, remove, least, reduce, joint, gain-answer, share, audit, trial-of, shape-of, Reduced};
 ghost use Rattle.card.specs.Card.{load};
 ghost use Rattle.card.specs.Check.{check};

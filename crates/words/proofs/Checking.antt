@@ -2,7 +2,7 @@
 use Prim.Native.Nat.{ℕ, zero, suc, _+_, _-_, _*_, _≤_, _<_}
 use mathlib.Core.Path.{_≡_, refl, sym, ap, _∙_}
 use mathlib.Core.Bool.{Bool, true, false, not}
-use mathlib.Core.List.{List, [], _∷_, _++_, append-assoc}
+use mathlib.Core.List.{List, _∷_, _++_, append-assoc, []}
 use native.Mathlib.Nat.{le-refl}
 use native.Mathlib.Numerals.{add-one}
 use native.Mathlib.Omega.{arith}
@@ -12,8 +12,10 @@ use lib.ListN.{length, getD, take, drop}
 use lib.Seq.{drop-cons}
 use borrow.Author.Count.{below-more}
 use borrow.Author.Tests.{leb-true, lt-ltb, le-ltb, eq-eqb, ne-eqb, not-true, not-false}
-use Rattle.hypervolume.specs.Cells.{both, box}
-use Rattle.hypervolume.proofs.Tests.{Compared, below, above, compared, Equated, same, differs, equated, both-true, both-intro, both-comm, both-assoc}
+use Rattle.slices.specs.Choices.{both}
+use Rattle.hypervolume.specs.Cells.{box}
+use Rattle.hypervolume.proofs.Tests.{Compared, below, above, compared, Equated, same, differs, equated}
+use Rattle.slices.proofs.Choices.{both-true, both-intro, both-comm, both-assoc}
 use Rattle.words.specs.Archive.{Trial, Row, Shape, reference, trials, before}
 use Rattle.words.specs.Layout.{word, read-rows, read-shape, read, extent}
 use Rattle.words.specs.Format.{guard, shape-allowed, header-allowed, row-allowed, rows-allowed, ordered, distinct, zeros, unused, records-allowed, archive-rows}

@@ -2,14 +2,15 @@
 use Prim.Native.Nat.{ℕ, zero, suc, _<_}
 use mathlib.Core.Path.{_≡_, refl, sym, ap, _∙_}
 use mathlib.Core.Bool.{Bool, true, false, not}
-use mathlib.Core.List.{List, [], _∷_, _++_}
+use mathlib.Core.List.{List, _∷_, _++_, []}
 use native.Mathlib.Omega.{arith}
 use lib.Dec.{eqb}
 use lib.ListN.{length, getD}
 use borrow.Author.Tests.{eq-eqb, ne-eqb}
-use Rattle.hypervolume.specs.Cells.{both}
-use Rattle.hypervolume.proofs.Tests.{Equated, same, differs, equated, both-true, both-intro, both-comm, both-assoc}
-use Rattle.words.specs.Archive.{Trial, Row, Shape, trials, either, before}
+use Rattle.slices.specs.Choices.{both, either}
+use Rattle.hypervolume.proofs.Tests.{Equated, same, differs, equated}
+use Rattle.slices.proofs.Choices.{either-assoc, either-none, both-true, both-intro, both-comm, both-assoc}
+use Rattle.words.specs.Archive.{Trial, Row, Shape, trials, before}
 use Rattle.words.specs.Format.{row-allowed, rows-allowed, ordered, held, distinct}
 
 pub trials-append : (a b : List Row) → trials (a ++ b) ≡ trials a ++ trials b
@@ -23,22 +24,12 @@ rows-allowed-append s [] b = refl
 rows-allowed-append s (r ∷ a) b =
     rw (rows-allowed-append s a b) (sym (both-assoc (row-allowed s r) (rows-allowed s a) (rows-allowed s b)))
 
-pub either-assoc : (s t u : Bool) → either (either s t) u ≡ either s (either t u)
-unfolding either
-either-assoc true t u = refl
-either-assoc false t u = refl
-
 pub held-append : (n : ℕ) (a b : List Trial) → held n (a ++ b) ≡ either (held n a) (held n b)
 unfolding held either
 held-append n [] b = refl
 held-append n (t ∷ a) b = rw (held-append n a b) (sym (either-assoc (eqb (t .number) n) (held n a) (held n b)))
 
 -- One trial more at the end.
-either-none : (b : Bool) → either b false ≡ b
-unfolding either
-either-none true = refl
-either-none false = refl
-
 pub held-snoc : (n : ℕ) (a : List Trial) (t : Trial) → held n (a ++ (t ∷ [])) ≡ either (held n a) (eqb (t .number) n)
 unfolding held
 held-snoc n a t = held-append n a (t ∷ []) ∙ ap (either (held n a)) (either-none (eqb (t .number) n))

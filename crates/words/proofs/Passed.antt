@@ -3,15 +3,16 @@
 use Prim.Native.Nat.{ℕ, zero, suc, _+_, _-_, _*_, _^_, _≤_, _<_}
 use mathlib.Core.Path.{_≡_, refl, sym, ap, _∙_, subst}
 use mathlib.Core.Bool.{Bool, true, false, not}
-use mathlib.Core.List.{List, [], _∷_, _++_, append-assoc}
+use mathlib.Core.List.{List, _∷_, _++_, append-assoc, []}
 use native.Mathlib.Nat.{le-refl, le-trans, lt-of-le-of-lt, mul-le-mul, mul-one}
 use native.Mathlib.Omega.{arith}
 use lib.Dec.{leb, ltb, lit<, lit≤}
 use lib.ListN.{length, getD, take, drop, replicate, length-append, length-drop, length-replicate, take-append-drop}
 use lib.Seq.{drop-at, take-at, drop-drop, length-take-le}
 use borrow.Author.Tests.{leb-true, ltb-false, eqb-true, le-leb, le-ltb, eq-eqb, not-false}
-use Rattle.hypervolume.specs.Cells.{both, box}
-use Rattle.hypervolume.proofs.Tests.{both-true, both-intro}
+use Rattle.slices.specs.Choices.{both}
+use Rattle.hypervolume.specs.Cells.{box}
+use Rattle.slices.proofs.Choices.{both-true, both-intro}
 use Rattle.words.specs.Archive.{Row, Shape, Archive, reference, trials}
 use Rattle.words.specs.Layout.{header, records, extent, layout, word, read-row, read-rows, read-shape, read, behind}
 use Rattle.words.specs.Format.{guard, within, shape-allowed, number-allowed, coordinates-allowed, header-allowed, row-allowed, rows-allowed, ordered, distinct, zeros, unused, records-allowed, archive-rows}

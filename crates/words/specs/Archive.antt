@@ -1,9 +1,9 @@
 -- What an archive holds (document 01, "The archive's words"), apart from how it lies in memory.
 use Prim.Native.Nat.{ℕ}
-use mathlib.Core.Bool.{Bool, true, false}
-use mathlib.Core.List.{List, [], _∷_, map}
+use mathlib.Core.Bool.{Bool, false}
+use mathlib.Core.List.{List, _∷_, map, []}
 use lib.Dec.{ltb, eqb}
-use Rattle.hypervolume.specs.Cells.{both}
+use Rattle.slices.specs.Choices.{both, either}
 
 -- A trial: its number and its point.
 pub record Trial : Type 0 where
@@ -42,16 +42,6 @@ trials rows = map (λ r. r .trial) rows
 
 unfoldable pub points : List Trial → List (List ℕ)
 points ts = map point ts
-
--- One of two, by a test.
-unfoldable pub pick : {A : Type 0} → Bool → A → A → A
-pick true a b = a
-pick false a b = b
-
--- One of two tests.
-unfoldable pub either : Bool → Bool → Bool
-either true b = true
-either false b = b
 
 -- Ascending by the first number in which two lists differ.
 unfoldable pub ascends : List ℕ → List ℕ → Bool

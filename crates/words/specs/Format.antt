@@ -1,12 +1,13 @@
 -- Rows 1 to 3 of the table of refusals (document 01, "Where each call is turned down"): what words must be to be
 -- read as an archive. The same for every call on an archive slice but start and the card reader.
-use Prim.Native.Nat.{ℕ, zero, suc, _+_, _-_, _*_}
+use Prim.Native.Nat.{ℕ, _+_, _-_, _*_}
 use mathlib.Core.Bool.{Bool, true, false, not}
-use mathlib.Core.List.{List, [], _∷_}
+use mathlib.Core.List.{List, _∷_, []}
 use lib.Dec.{leb, ltb, eqb}
 use lib.ListN.{length, take, drop}
-use Rattle.hypervolume.specs.Cells.{both, box}
-use Rattle.words.specs.Archive.{Trial, Row, Shape, Archive, reference, trials, either, before}
+use Rattle.slices.specs.Choices.{both, either}
+use Rattle.hypervolume.specs.Cells.{box}
+use Rattle.words.specs.Archive.{Trial, Row, Shape, reference, trials, before}
 use Rattle.words.specs.Layout.{word, read, read-shape, extent}
 
 -- A row of the table: its number where its condition holds, else what the rows after it say. 0 is no refusal.

@@ -1,8 +1,8 @@
 -- The layout of an archive as words, and the reading of words as an archive (document 01, "The archive's words").
 use Prim.Native.Nat.{ℕ, zero, suc, _+_, _-_, _*_}
-use mathlib.Core.List.{List, [], _∷_, _++_}
+use mathlib.Core.List.{List, _∷_, _++_, []}
 use lib.ListN.{length, getD, drop, replicate}
-use Rattle.words.specs.Archive.{Trial, Row, Shape, Archive}
+use Rattle.words.specs.Archive.{Row, Shape, Archive}
 
 -- "Word 0: count of trials. 1: capacity. 2, 3, 4: rx, ry, rz. 5: total. 6 and 7: zero."
 unfoldable pub header : Archive → List ℕ

@@ -2,10 +2,11 @@
 use Prim.Native.Nat.{ℕ, zero, suc, _+_, _*_, _≤_, _<_}
 use mathlib.Core.Bool.{Bool, true, false, not}
 use mathlib.Core.Path.{_≡_}
-use mathlib.Core.List.{List, [], _∷_}
+use mathlib.Core.List.{List, _∷_, []}
 use lib.Dec.{ltb}
 use lib.ListN.{length, drop}
-use Rattle.hypervolume.specs.Cells.{both, box}
+use Rattle.slices.specs.Choices.{both}
+use Rattle.hypervolume.specs.Cells.{box}
 use Rattle.words.specs.Archive.{Row, Shape, reference, trials, before}
 use Rattle.words.specs.Layout.{word, read-row, read-rows, read-shape, extent}
 use Rattle.words.specs.Format.{header-allowed, row-allowed, rows-allowed, ordered, held, distinct}

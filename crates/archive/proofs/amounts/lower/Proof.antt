@@ -1,7 +1,7 @@
 -- `lower` meets its contract: after i turns the first i values are moved.
-use Prim.Native.Nat.{_-_, _+_, _≤_}
+use Prim.Native.Nat.{_-_}
 use native.Mathlib.Omega.{arith}
-use lib.ListN.{length, drop}
+use lib.ListN.{length}
 use Rattle.archive.proofs.Pairs.{Moving, moving-none, moving-more, moving-end, lower-fits}
 use Rattle.archive.proofs.amounts.lower.Statement.{statement}
 use Rattle.archive.proofs.amounts.lower.Tie as tie

@@ -1,7 +1,7 @@
 -- `raise` meets its contract: after i turns the first i values are moved.
-use Prim.Native.Nat.{_-_, _+_, _≤_}
+use Prim.Native.Nat.{_-_, _+_}
 use native.Mathlib.Omega.{arith}
-use lib.ListN.{length, drop}
+use lib.ListN.{length}
 use Rattle.archive.proofs.Pairs.{Moving, moving-none, moving-here, moving-more, moving-end}
 use Rattle.archive.proofs.amounts.raise.Statement.{statement}
 use Rattle.archive.proofs.amounts.raise.Tie as tie

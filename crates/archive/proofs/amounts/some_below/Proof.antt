@@ -1,7 +1,7 @@
 -- `some_below` meets its contract: the pairs passed do not decide, so what is left does.
-use Prim.Native.Nat.{_-_, _+_, _≤_}
+use Prim.Native.Nat.{_-_}
 use native.Mathlib.Omega.{arith}
-use lib.ListN.{length, drop}
+use lib.ListN.{length}
 use lib.Dec.{ltb}
 use borrow.Author.Tests.{lt-ltb, le-ltb}
 use Rattle.archive.proofs.Pairs.{Seeking, seeking-none, seeking-found, seeking-more, seeking-end}

@@ -8,7 +8,6 @@ use borrow.Author.Needs.{needs}
 use Rattle.words.specs.Format.{shape-allowed}
 use Rattle.archive.proofs.Answers.{known}
 use Rattle.archive.proofs.ColumnsReady.{Columns, columns-loaded, columns-are-ready, all-counted}
-use borrow.Author.Needs.{needs}
 use Rattle.archive.proofs.counts.count_all.Statement.{statement}
 use Rattle.archive.proofs.counts.count_all.Tie as tie
 

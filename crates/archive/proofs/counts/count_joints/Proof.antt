@@ -6,7 +6,6 @@ use borrow.Author.Needs.{needs}
 use Rattle.words.specs.Format.{shape-allowed}
 use Rattle.archive.proofs.Answers.{known}
 use Rattle.archive.proofs.ColumnsReady.{Columns, columns-loaded, columns-are-ready, joints-counted}
-use borrow.Author.Needs.{needs}
 use Rattle.archive.proofs.counts.count_joints.Statement.{statement}
 use Rattle.archive.proofs.counts.count_joints.Tie as tie
 

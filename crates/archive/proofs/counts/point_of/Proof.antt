@@ -1,7 +1,6 @@
 -- `point_of` meets its contract: each coordinate fits, by the axis.
 use native.Mathlib.Omega.{arith}
 use borrow.Author.Needs.{needs}
-use borrow.Author.Needs.{needs}
 use Rattle.archive.proofs.counts.point_of.Statement.{statement}
 use Rattle.archive.proofs.counts.point_of.Tie as tie
 

@@ -2,7 +2,6 @@
 use native.Mathlib.Omega.{arith}
 use borrow.Author.Needs.{needs}
 use Rattle.words.proofs.Passed.{shape-bounds}
-use borrow.Author.Needs.{needs}
 use Rattle.archive.proofs.counts.reference_of.Statement.{statement}
 use Rattle.archive.proofs.counts.reference_of.Tie as tie
 

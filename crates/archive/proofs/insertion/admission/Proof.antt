@@ -1,12 +1,10 @@
 -- `admission` meets its contract: rows 5 to 8 in turn.
-use Prim.Native.Nat.{ℕ}
 use mathlib.Core.Path.{_≡_, sym, ap, _∙_}
-use mathlib.Core.Bool.{Bool, true, false}
+use mathlib.Core.Bool.{true}
 use native.Mathlib.Omega.{arith}
 use lib.Dec.{ltb}
 use borrow.Author.Needs.{needs}
 use borrow.Author.Tests.{not-true, not-false, lt-ltb, le-ltb}
-use Rattle.words.specs.Archive.{Trial}
 use Rattle.words.specs.Format.{number-allowed, coordinates-allowed, held}
 use Rattle.words.specs.Layout.{read, read-shape, word}
 use Rattle.words.specs.Places.{as-row}
@@ -15,7 +13,6 @@ use Rattle.archive.specs.Calls.{held-trials}
 use Rattle.archive.proofs.Answers.{known}
 use Rattle.archive.proofs.Stored.{count-rows}
 use Rattle.archive.proofs.Updates.{admission-5, admission-6, admission-7, admission-8, admission-passed}
-use borrow.Author.Needs.{needs}
 use Rattle.archive.proofs.insertion.admission.Statement.{statement}
 use Rattle.archive.proofs.insertion.admission.Tie as tie
 

@@ -5,7 +5,6 @@ use Rattle.words.specs.Archive.{Row}
 use Rattle.words.specs.Layout.{read}
 use Rattle.archive.specs.Calls.{admission-rows}
 use Rattle.archive.proofs.Updates.{insert-refused, insert-turned, insert-put-row}
-use borrow.Author.Needs.{needs}
 use Rattle.archive.proofs.insertion.insert.Statement.{statement}
 use Rattle.archive.proofs.insertion.insert.Tie as tie
 

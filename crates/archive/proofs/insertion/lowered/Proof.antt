@@ -13,7 +13,6 @@ use Rattle.words.specs.Places.{as-row}
 use Rattle.archive.specs.Calls.{box-of}
 use Rattle.archive.proofs.Answers.{known}
 use Rattle.archive.proofs.Updates.{allowed-small, gain-fits, front-of, gain-front, kept-front, shares-front, lowered-over, lowered-below, lowered-done}
-use borrow.Author.Needs.{needs}
 use Rattle.archive.proofs.insertion.lowered.Statement.{statement}
 use Rattle.archive.proofs.insertion.lowered.Tie as tie
 

@@ -1,13 +1,11 @@
 -- `put_in` meets its contract: refused by row 13, or stored.
 use mathlib.Core.Path.{sym}
 use native.Mathlib.Omega.{arith}
-use lib.ListN.{getD}
 use lib.Seq.{length-take-le}
 use borrow.Author.Needs.{needs}
 use borrow.Author.Tests.{not-true, not-false}
 use Rattle.archive.proofs.Answers.{known}
 use Rattle.archive.proofs.Updates.{admitted, overruns, fits-box, storing, judged-13, judged-done}
-use borrow.Author.Needs.{needs}
 use Rattle.archive.proofs.insertion.put_in.Statement.{statement}
 use Rattle.archive.proofs.insertion.put_in.Tie as tie
 

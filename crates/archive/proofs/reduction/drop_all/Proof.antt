@@ -1,7 +1,6 @@
 -- `drop_all` meets its contract: after i turns i drops are made and noted.
 use Prim.Native.Nat.{_-_}
 use native.Mathlib.Omega.{arith}
-use borrow.Author.Needs.{needs}
 use Rattle.archive.proofs.Reductions.{Thinning, thinning-none, thinned, thinning-more, thinning-end}
 use Rattle.archive.proofs.reduction.drop_all.Statement.{statement}
 use Rattle.archive.proofs.reduction.drop_all.Tie as tie

@@ -5,7 +5,6 @@ use lib.ListN.{length-set}
 use borrow.Author.Needs.{needs}
 use Rattle.archive.proofs.Answers.{known}
 use Rattle.archive.proofs.Reductions.{drop-done, note-written}
-use borrow.Author.Needs.{needs}
 use Rattle.archive.proofs.reduction.drop_least.Statement.{statement}
 use Rattle.archive.proofs.reduction.drop_least.Tie as tie
 

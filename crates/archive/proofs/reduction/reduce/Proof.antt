@@ -4,7 +4,6 @@ use native.Mathlib.Omega.{arith}
 use borrow.Author.Needs.{needs}
 use Rattle.archive.proofs.Answers.{known}
 use Rattle.archive.proofs.Reductions.{reducible, reduce-refused, reduce-turned, reduce-done}
-use borrow.Author.Needs.{needs}
 use Rattle.archive.proofs.reduction.reduce.Statement.{statement}
 use Rattle.archive.proofs.reduction.reduce.Tie as tie
 

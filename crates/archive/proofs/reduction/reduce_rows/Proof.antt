@@ -4,7 +4,6 @@ use borrow.Author.Needs.{needs}
 use borrow.Author.Tests.{not-true, not-false}
 use Rattle.archive.proofs.Answers.{known}
 use Rattle.archive.proofs.Reductions.{rows-11, rows-12, rows-13, rows-none}
-use borrow.Author.Needs.{needs}
 use Rattle.archive.proofs.reduction.reduce_rows.Statement.{statement}
 use Rattle.archive.proofs.reduction.reduce_rows.Tie as tie
 

@@ -15,7 +15,6 @@ use Rattle.archive.specs.Calls.{box-of}
 use Rattle.archive.proofs.Answers.{known}
 use Rattle.archive.proofs.Updates.{front-of}
 use Rattle.archive.proofs.Removals.{point-small, loss-counted, kept-counted, shares-counted, kept-each, joints-each, box-each, limit-each, box-fits, limit-fits, raised-over, raised-above, raised-done}
-use borrow.Author.Needs.{needs}
 use Rattle.archive.proofs.removal.raised.Statement.{statement}
 use Rattle.archive.proofs.removal.raised.Tie as tie
 

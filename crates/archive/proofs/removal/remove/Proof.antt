@@ -4,7 +4,6 @@ use native.Mathlib.Omega.{arith}
 use borrow.Author.Needs.{needs}
 use Rattle.archive.proofs.Answers.{known}
 use Rattle.archive.proofs.Removals.{remove-refused, remove-not-held, remove-out}
-use borrow.Author.Needs.{needs}
 use Rattle.archive.proofs.removal.remove.Statement.{statement}
 use Rattle.archive.proofs.removal.remove.Tie as tie
 

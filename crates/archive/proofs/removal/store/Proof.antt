@@ -5,7 +5,6 @@ use lib.ListN.{length-set}
 use borrow.Author.Needs.{needs}
 use Rattle.archive.proofs.Answers.{known}
 use Rattle.archive.proofs.Removals.{striking-long, struck-out}
-use borrow.Author.Needs.{needs}
 use Rattle.archive.proofs.removal.store.Statement.{statement}
 use Rattle.archive.proofs.removal.store.Tie as tie
 

@@ -7,7 +7,6 @@ use borrow.Author.Tests.{not-true, not-false}
 use Rattle.archive.proofs.Answers.{known}
 use Rattle.archive.proofs.Updates.{judged-13, judged-done}
 use Rattle.archive.proofs.Removals.{overruns, fits-box, striking}
-use borrow.Author.Needs.{needs}
 use Rattle.archive.proofs.removal.take_out.Statement.{statement}
 use Rattle.archive.proofs.removal.take_out.Tie as tie
 

@@ -1,6 +1,6 @@
 -- `offered` meets its contract, by the branches taken.
 use borrow.Author.Tests.{le-leb, lt-leb}
-use Rattle.hypervolume.specs.Cells.{both}
+use Rattle.slices.specs.Choices.{both}
 use Rattle.corners.specs.Limits.{offer}
 use Rattle.corners.proofs.limits.offered.Statement.{statement}
 use Rattle.corners.proofs.limits.offered.Tie as tie

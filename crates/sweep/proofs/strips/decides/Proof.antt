@@ -1,7 +1,7 @@
 -- `decides` meets its contract.
 use mathlib.Core.Path.{sym, _∙_}
 use borrow.Author.Tests.{eq-eqb, ne-eqb}
-use Rattle.hypervolume.specs.Cells.{both}
+use Rattle.slices.specs.Choices.{both}
 use borrow.Author.Needs.{needs}
 use Rattle.sweep.proofs.strips.decides.Statement.{statement}
 use Rattle.sweep.proofs.strips.decides.Tie as tie

@@ -1,7 +1,7 @@
 -- `ascends` meets its contract, by the branch taken.
 use borrow.Author.Needs.{needs}
 use borrow.Author.Tests.{le-ltb, lt-ltb}
-use Rattle.words.specs.Archive.{either}
+use Rattle.slices.specs.Choices.{either}
 use Rattle.words.proofs.check.ascends.Statement.{statement}
 use Rattle.words.proofs.check.ascends.Tie as tie
 

@@ -2,12 +2,12 @@
 use Prim.Native.Nat.{ℕ, _≤_, _<_}
 use mathlib.Core.Path.{_≡_, sym, _∙_}
 use mathlib.Core.Bool.{true, false}
-use mathlib.Core.List.{List, [], _∷_}
+use mathlib.Core.List.{List, _∷_, []}
 use native.Mathlib.Omega.{arith}
 use borrow.Author.Needs.{needs}
 use borrow.Author.Tests.{le-ltb, lt-ltb, eq-eqb, ne-eqb}
-use Rattle.hypervolume.specs.Cells.{both}
-use Rattle.words.specs.Archive.{either, ascends, before}
+use Rattle.slices.specs.Choices.{both, either}
+use Rattle.words.specs.Archive.{ascends, before}
 use Rattle.words.proofs.check.before.Statement.{statement}
 use Rattle.words.proofs.check.before.Tie as tie
 

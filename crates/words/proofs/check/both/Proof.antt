@@ -1,5 +1,5 @@
 -- `both` meets its contract, by the branch taken.
-use Rattle.hypervolume.specs.Cells.{both}
+use Rattle.slices.specs.Choices.{both}
 use Rattle.words.proofs.check.both.Statement.{statement}
 use Rattle.words.proofs.check.both.Tie as tie
 
