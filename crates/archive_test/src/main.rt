@@ -29,7 +29,7 @@ fn point(x: u32, y: u32, z: u32) -> Point {
 }
 
 // 1 where the answer is this.
-fn says(a: archive::Answer, refusal: u64, value: u64) -> u64
+fn says(a: calls::Answer, refusal: u64, value: u64) -> u64
     ensures { λ r. ⌜ r ≤ 1 ⌝ }
 {
     one(a.refusal == refusal && a.value == value)
@@ -39,7 +39,7 @@ fn says(a: archive::Answer, refusal: u64, value: u64) -> u64
 fn least_is(w: &[u64], refusal: u64, number: u64, contribution: u64) -> u64
     ensures { λ r. ⌜ r ≤ 1 ⌝ }
 {
-    let a = archive::least(w);
+    let a = ask::least(w);
     one(a.refusal == refusal && a.number == number && a.contribution == contribution)
 }
 
@@ -68,7 +68,7 @@ fn empty() -> [u64; 48]
     ensures { λ r. ⌜ 48 ≡ length r ⌝ }
 {
     let mut w = [7u64; 48];
-    archive::start(&mut w, point(4, 4, 4), 8);
+    insertion::start(&mut w, point(4, 4, 4), 8);
     w
 }
 
@@ -77,9 +77,9 @@ fn three() -> [u64; 48]
     ensures { λ r. ⌜ 48 ≡ length r ⌝ }
 {
     let mut w = empty();
-    archive::insert(&mut w, 1, point(1, 2, 2));
-    archive::insert(&mut w, 2, point(2, 1, 2));
-    archive::insert(&mut w, 3, point(2, 2, 1));
+    insertion::insert(&mut w, 1, point(1, 2, 2));
+    insertion::insert(&mut w, 2, point(2, 1, 2));
+    insertion::insert(&mut w, 3, point(2, 2, 1));
     w
 }
 
@@ -87,7 +87,7 @@ fn four() -> [u64; 48]
     ensures { λ r. ⌜ 48 ≡ length r ⌝ }
 {
     let mut w = three();
-    archive::insert(&mut w, 4, point(1, 1, 3));
+    insertion::insert(&mut w, 4, point(1, 1, 3));
     w
 }
 
@@ -108,7 +108,7 @@ fn count_2() -> u64
     ensures { λ r. ⌜ r ≤ 1 ⌝ }
 {
     let mut w = empty();
-    let done = archive::insert(&mut w, 1, point(0, 0, 0));
+    let done = insertion::insert(&mut w, 1, point(0, 0, 0));
     one(done == 0 && keeps(&w, 64, 64, 0))
 }
 
@@ -116,8 +116,8 @@ fn count_3() -> u64
     ensures { λ r. ⌜ r ≤ 1 ⌝ }
 {
     let mut w = empty();
-    let done = archive::insert(&mut w, 1, point(4, 0, 0));
-    let above = archive::insert(&mut w, 2, point(5, 0, 0));
+    let done = insertion::insert(&mut w, 1, point(4, 0, 0));
+    let above = insertion::insert(&mut w, 2, point(5, 0, 0));
     one(done == 0 && above == 6 && at(&w, 0) == 1 && keeps(&w, 0, 0, 0))
 }
 
@@ -126,10 +126,10 @@ fn count_4() -> u64
     ensures { λ r. ⌜ r ≤ 1 ⌝ }
 {
     let mut w = empty();
-    archive::insert(&mut w, 1, point(1, 1, 1));
-    archive::insert(&mut w, 2, point(1, 1, 1));
+    insertion::insert(&mut w, 1, point(1, 1, 1));
+    insertion::insert(&mut w, 2, point(1, 1, 1));
     let both = keeps(&w, 27, 0, 0);
-    let done = archive::remove(&mut w, 2);
+    let done = removal::remove(&mut w, 2);
     one(both && done == 0 && keeps(&w, 27, 27, 0))
 }
 
@@ -137,9 +137,9 @@ fn count_5() -> u64
     ensures { λ r. ⌜ r ≤ 1 ⌝ }
 {
     let mut w = empty();
-    archive::insert(&mut w, 1, point(1, 1, 1));
-    archive::insert(&mut w, 2, point(2, 2, 2));
-    one(keeps(&w, 27, 19, 0) && says(archive::joint(&w, 1, 2), 0, 8) == 1)
+    insertion::insert(&mut w, 1, point(1, 1, 1));
+    insertion::insert(&mut w, 2, point(2, 2, 2));
+    one(keeps(&w, 27, 19, 0) && says(ask::joint(&w, 1, 2), 0, 8) == 1)
 }
 
 // Counts 6 to 8: the card.
@@ -147,7 +147,7 @@ fn count_6() -> u64
     ensures { λ r. ⌜ r ≤ 1 ⌝ }
 {
     let w = three();
-    let gained = says(archive::gain(&w, point(1, 1, 1)), 0, 7);
+    let gained = says(ask::gain(&w, point(1, 1, 1)), 0, 7);
     one(keeps(&w, 20, 4, 4) && kept(&w, 3) == 4 && gained == 1)
 }
 
@@ -155,9 +155,9 @@ fn count_7() -> u64
     ensures { λ r. ⌜ r ≤ 1 ⌝ }
 {
     let mut w = three();
-    let none = says(archive::joint(&w, 1, 2), 0, 0);
-    archive::remove(&mut w, 3);
-    let some = says(archive::joint(&w, 1, 2), 0, 8);
+    let none = says(ask::joint(&w, 1, 2), 0, 0);
+    removal::remove(&mut w, 3);
+    let some = says(ask::joint(&w, 1, 2), 0, 8);
     one(none == 1 && some == 1)
 }
 
@@ -166,7 +166,7 @@ fn count_8() -> u64
 {
     let mut w = four();
     let mut log = [7u64; 5];
-    let answered = says(archive::reduce(&mut w, 2, &mut log), 0, 2);
+    let answered = says(removal::reduce(&mut w, 2, &mut log), 0, 2);
     let first = at(&log, 0) == 4 && at(&log, 1) == 1;
     let second = at(&log, 2) == 3 && at(&log, 3) == 4 && at(&log, 4) == 7;
     one(answered == 1 && first && second && at(&w, 0) == 2 && keeps(&w, 16, 4, 4))
@@ -177,9 +177,9 @@ fn count_9() -> u64
     ensures { λ r. ⌜ r ≤ 1 ⌝ }
 {
     let mut w = [7u64; 48];
-    archive::start(&mut w, point(1048576, 1048576, 1048576), 8);
-    let done = archive::insert(&mut w, 1, point(0, 0, 0));
-    let above = archive::insert(&mut w, 2, point(1048577, 0, 0));
+    insertion::start(&mut w, point(1048576, 1048576, 1048576), 8);
+    let done = insertion::insert(&mut w, 1, point(0, 0, 0));
+    let above = insertion::insert(&mut w, 2, point(1048577, 0, 0));
     let whole = 1152921504606846976;
     one(done == 0 && above == 6 && keeps(&w, whole, whole, 0))
 }
@@ -188,11 +188,11 @@ fn count_10() -> u64
     ensures { λ r. ⌜ r ≤ 1 ⌝ }
 {
     let mut w = [7u64; 13];
-    archive::start(&mut w, point(4, 4, 4), 1);
-    let first = archive::insert(&mut w, 1, point(1, 1, 1));
-    let full = archive::insert(&mut w, 2, point(1, 1, 1));
-    let gone = archive::remove(&mut w, 1);
-    let second = archive::insert(&mut w, 2, point(1, 1, 1));
+    insertion::start(&mut w, point(4, 4, 4), 1);
+    let first = insertion::insert(&mut w, 1, point(1, 1, 1));
+    let full = insertion::insert(&mut w, 2, point(1, 1, 1));
+    let gone = removal::remove(&mut w, 1);
+    let second = insertion::insert(&mut w, 2, point(1, 1, 1));
     one(first == 0 && full == 8 && gone == 0 && second == 0 && at(&w, 8) == 2 && at(&w, 5) == 27)
 }
 
@@ -200,11 +200,11 @@ fn count_11() -> u64
     ensures { λ r. ⌜ r ≤ 1 ⌝ }
 {
     let mut w = [7u64; 48];
-    archive::start(&mut w, point(3, 1, 1), 8);
-    archive::insert(&mut w, 1, point(1, 0, 0));
+    insertion::start(&mut w, point(3, 1, 1), 8);
+    insertion::insert(&mut w, 1, point(1, 0, 0));
     let card = four();
-    let thirds = says(archive::share(&w), 0, 666666);
-    let cards = says(archive::share(&card), 0, 328125);
+    let thirds = says(ask::share(&w), 0, 666666);
+    let cards = says(ask::share(&card), 0, 328125);
     one(thirds == 1 && cards == 1)
 }
 
@@ -229,7 +229,7 @@ fn starts(capacity: u64, x: u32, y: u32, z: u32, due: u64) -> u64
     ensures { λ r. ⌜ r ≤ 1 ⌝ }
 {
     let mut w = [7u64; 2568];
-    one(archive::start(&mut w, point(x, y, z), capacity) == due)
+    one(insertion::start(&mut w, point(x, y, z), capacity) == due)
 }
 
 // Row 4: capacity and reference at and beyond their limits.
@@ -255,9 +255,9 @@ fn writes_refuse(w: &mut [u64], due: u64) -> u64
     ensures { λ r. ⌜ r ≤ 3 ⌝ }
 {
     let mut log = [0u64; 16];
-    let inserted = archive::insert(w, 9, point(0, 0, 0));
-    let removed = archive::remove(w, 1);
-    let reduced = archive::reduce(w, 0, &mut log);
+    let inserted = insertion::insert(w, 9, point(0, 0, 0));
+    let removed = removal::remove(w, 1);
+    let reduced = removal::reduce(w, 0, &mut log);
     one(inserted == due) + one(removed == due) + says(reduced, due, 0)
 }
 
@@ -266,10 +266,10 @@ fn queries_refuse(w: &[u64], due: u64) -> u64
     ensures { λ r. ⌜ r ≤ 5 ⌝ }
 {
     least_is(w, due, 0, 0)
-        + says(archive::joint(w, 1, 2), due, 0)
-        + says(archive::gain(w, point(0, 0, 0)), due, 0)
-        + says(archive::share(w), due, 0)
-        + says(archive::audit(w), due, 0)
+        + says(ask::joint(w, 1, 2), due, 0)
+        + says(ask::gain(w, point(0, 0, 0)), due, 0)
+        + says(ask::share(w), due, 0)
+        + says(ask::audit(w), due, 0)
 }
 
 fn all_refuse(w: &mut [u64], due: u64) -> u64
@@ -295,9 +295,9 @@ fn slices() -> u64
 {
     let mut short = [0u64; 12];
     let mut enough = [7u64; 13];
-    let small = archive::start(&mut short, point(4, 4, 4), 1);
-    let none = archive::start(&mut short, point(4, 4, 4), 0);
-    let done = archive::start(&mut enough, point(4, 4, 4), 1);
+    let small = insertion::start(&mut short, point(4, 4, 4), 1);
+    let none = insertion::start(&mut short, point(4, 4, 4), 0);
+    let done = insertion::start(&mut enough, point(4, 4, 4), 1);
     let cut = [0, 1, 4, 4, 4, 0, 0, 0, 0, 0, 0, 0];
     one(small == 1)
         + one(none == 4)
@@ -312,7 +312,7 @@ fn damaged(i: usize, value: u64, due: u64) -> u64
 {
     let mut w = four();
     put(&mut w, i, value);
-    let a = archive::audit(&w);
+    let a = ask::audit(&w);
     one(a.refusal == due)
 }
 
@@ -366,7 +366,7 @@ fn inserts(number: u64, x: u32, y: u32, z: u32, due: u64) -> u64
 {
     let mut w = four();
     let before = four();
-    let answer = archive::insert(&mut w, number, point(x, y, z));
+    let answer = insertion::insert(&mut w, number, point(x, y, z));
     one(answer == due && same(&w, &before) == (due != 0))
 }
 
@@ -391,13 +391,13 @@ fn full() -> u64
     ensures { λ r. ⌜ r ≤ 5 ⌝ }
 {
     let mut w = [7u64; 13];
-    archive::start(&mut w, point(4, 4, 4), 1);
-    archive::insert(&mut w, 1, point(1, 1, 1));
-    let held = archive::insert(&mut w, 1, point(1, 1, 1));
-    let more = archive::insert(&mut w, 2, point(1, 1, 1));
-    let other = archive::remove(&mut w, 2);
-    let gone = archive::remove(&mut w, 1);
-    let again = archive::remove(&mut w, 1);
+    insertion::start(&mut w, point(4, 4, 4), 1);
+    insertion::insert(&mut w, 1, point(1, 1, 1));
+    let held = insertion::insert(&mut w, 1, point(1, 1, 1));
+    let more = insertion::insert(&mut w, 2, point(1, 1, 1));
+    let other = removal::remove(&mut w, 2);
+    let gone = removal::remove(&mut w, 1);
+    let again = removal::remove(&mut w, 1);
     one(held == 7) + one(more == 8) + one(other == 9) + one(gone == 0) + one(again == 9)
 }
 
@@ -406,7 +406,7 @@ fn gains_refuse(x: u32, y: u32, z: u32, due: u64) -> u64
     ensures { λ r. ⌜ r ≤ 1 ⌝ }
 {
     let w = four();
-    says(archive::gain(&w, point(x, y, z)), due, 0)
+    says(ask::gain(&w, point(x, y, z)), due, 0)
 }
 
 // 1 where the joint contribution of two of its trials is refused so.
@@ -414,7 +414,7 @@ fn joints_refuse(first: u64, second: u64, due: u64) -> u64
     ensures { λ r. ⌜ r ≤ 1 ⌝ }
 {
     let w = four();
-    says(archive::joint(&w, first, second), due, 0)
+    says(ask::joint(&w, first, second), due, 0)
 }
 
 // Rows 6, 9 and 10 of gain and joint.
@@ -439,8 +439,8 @@ fn reductions_refused() -> u64
     let before = four();
     let mut none = [0u64; 0];
     let mut short = [7u64; 3];
-    let above = archive::reduce(&mut w, 5, &mut none);
-    let cut = archive::reduce(&mut w, 2, &mut short);
+    let above = removal::reduce(&mut w, 5, &mut none);
+    let cut = removal::reduce(&mut w, 2, &mut short);
     let left = same(&w, &before) && at(&short, 0) == 7;
     one(left) + says(above, 11, 0) + says(cut, 12, 0)
 }
@@ -452,9 +452,9 @@ fn reductions_done() -> u64
     let mut w = four();
     let mut none = [0u64; 0];
     let mut log = [7u64; 4];
-    let still = archive::reduce(&mut w, 4, &mut none);
-    let some = archive::reduce(&mut w, 2, &mut log);
-    let all = archive::reduce(&mut w, 0, &mut log);
+    let still = removal::reduce(&mut w, 4, &mut none);
+    let some = removal::reduce(&mut w, 2, &mut log);
+    let all = removal::reduce(&mut w, 0, &mut log);
     says(still, 0, 0) + says(some, 0, 2) + says(all, 0, 2)
 }
 
@@ -465,12 +465,12 @@ fn overruns(i: usize, value: u64, number: u64, due: u64) -> u64
     let mut w = four();
     let mut log = [7u64; 8];
     put(&mut w, i, value);
-    let audited = says(archive::audit(&w), 0, 0);
-    let reduced = says(archive::reduce(&mut w, 0, &mut log), 13, 0);
+    let audited = says(ask::audit(&w), 0, 0);
+    let reduced = says(removal::reduce(&mut w, 0, &mut log), 13, 0);
     let done = if number < 5 {
-        archive::remove(&mut w, number)
+        removal::remove(&mut w, number)
     } else {
-        archive::insert(&mut w, number, point(0, 0, 0))
+        insertion::insert(&mut w, number, point(0, 0, 0))
     };
     one(audited == 1 && reduced == 1 && done == due)
 }
@@ -594,7 +594,7 @@ fn trial_agrees(book: &[u64], w: &[u64], n: usize, m: usize) -> bool {
         return true;
     }
     says(
-        archive::joint(w, n as u64, m as u64),
+        ask::joint(w, n as u64, m as u64),
         0,
         cells(book, n, m, 2, 2),
     )
@@ -633,7 +633,7 @@ fn gains(book: &mut [u64], w: &[u64], p: Point) -> bool {
     enter(book, 9, p);
     let due = contribution(book, 9);
     put(book, 36, 0);
-    says(archive::gain(w, p), 0, due) == 1
+    says(ask::gain(w, p), 0, due) == 1
 }
 
 // Drops the least contributor, if there is one, from both.
@@ -647,7 +647,7 @@ fn drop_least(book: &mut [u64], w: &mut [u64]) -> bool {
     let due = contribution(book, n);
     let mut log = [0u64; 2];
     put(book, 4 * (n % 16), 0);
-    let done = says(archive::reduce(w, rest, &mut log), 0, 1);
+    let done = says(removal::reduce(w, rest, &mut log), 0, 1);
     done == 1 && at(&log, 0) == n as u64 && at(&log, 1) == due
 }
 
@@ -659,11 +659,11 @@ fn step(book: &mut [u64], w: &mut [u64], set: u64, i: u64) -> bool {
     }
     if held(book, n) {
         put(book, 4 * (n % 16), 0);
-        return archive::remove(w, n as u64) == 0;
+        return removal::remove(w, n as u64) == 0;
     }
     let p = somewhere(book, set, i);
     enter(book, n, p);
-    archive::insert(w, n as u64, p) == 0
+    insertion::insert(w, n as u64, p) == 0
 }
 
 // Twelve calls on an archive, compared with the book after each.
@@ -680,7 +680,7 @@ fn lives(book: &mut [u64], w: &mut [u64], set: u64) -> bool {
             return false;
         }
     }
-    says(archive::audit(w), 0, 1) == 1
+    says(ask::audit(w), 0, 1) == 1
 }
 
 // The archive of this number.
@@ -693,7 +693,7 @@ fn archive_agrees(set: u64) -> bool {
     let reference = point(x as u32, y as u32, z as u32);
     enter(&mut book, 0, point(0, 0, 0));
     enter(&mut book, 10, reference);
-    archive::start(&mut w, reference, 8) == 0 && lives(&mut book, &mut w, set)
+    insertion::start(&mut w, reference, 8) == 0 && lives(&mut book, &mut w, set)
 }
 
 // How many of a hundred archives differ.

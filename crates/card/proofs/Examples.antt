@@ -13,7 +13,7 @@ use Rattle.words.specs.Archive.{Archive, trials, points, ascends, before}
 use Rattle.words.specs.Layout.{extent}
 use Rattle.words.specs.Format.{guard, within, shape-allowed, number-allowed, coordinates-allowed, held}
 use Rattle.words.proofs.Reading.{read-layout}
-use Rattle.archive.specs.Calls.{empty, place, insert-gain, joint-with, lowered, inserted, admission-rows}
+use Rattle.calls.specs.Calls.{empty, place, insert-gain, joint-with, lowered, inserted, admission-rows}
 use Rattle.card.specs.Card.{shape-on, trial-on, line-count, lines-from, lines, accepted}
 use Rattle.card.specs.Report.{report-line, head-line, record-line, record-lines, report-text}
 use Rattle.card.specs.Printed.{shown, loaded, printed}

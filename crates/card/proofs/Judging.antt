@@ -14,12 +14,12 @@ use Rattle.words.specs.Layout.{extent, layout}
 use Rattle.words.specs.Format.{guard, shape-allowed, rows-allowed, ordered, distinct}
 use Rattle.words.proofs.Reading.{read-layout, behind-layout}
 use Rattle.words.proofs.Passed.{guard-none, Sound, sound-passes}
-use Rattle.archive.specs.Calls.{empty, inserted, insert-rows, admission-rows, lowered}
-use Rattle.archive.specs.Counted.{IsCounted}
-use Rattle.archive.specs.Lent.{leaves, start-rows, start, insert}
-use Rattle.archive.proofs.Members.{place-length}
-use Rattle.archive.proofs.Counted.{insert-fits, inserted-counted, empty-counted, counted-is-counted}
-use Rattle.archive.proofs.Sound.{insert-passed, inserted-sound}
+use Rattle.calls.specs.Calls.{empty, inserted, insert-rows, admission-rows, lowered}
+use Rattle.calls.specs.Counted.{IsCounted}
+use Rattle.calls.specs.Lent.{leaves, start-rows, start, insert}
+use Rattle.calls.proofs.Members.{place-length}
+use Rattle.calls.proofs.Counted.{insert-fits, inserted-counted, empty-counted, counted-is-counted}
+use Rattle.calls.proofs.Sound.{insert-passed, inserted-sound}
 use Rattle.card.specs.Card.{shape-on, trial-on, malformed, by-form, first-line, further-line, judged, further, from-first, lines, load}
 use Rattle.card.specs.Verdict.{refusal, in-turn, shape-rows, judge-further, judge, carried-out}
 

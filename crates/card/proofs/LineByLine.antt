@@ -12,7 +12,7 @@ use Rattle.text.specs.Fields.{choose}
 use Rattle.text.specs.Lines.{Numbers, lineFrom, numbersOf}
 use Rattle.text.specs.declared.Line.{Line}
 use Rattle.text.specs.declared.Line.the-variants.{Values, Malformed}
-use Rattle.archive.specs.Lent.{Outcome, shape-of, trial-of, start, insert}
+use Rattle.calls.specs.Lent.{Outcome, shape-of, trial-of, start, insert}
 use Rattle.text.proofs.Lines.{lineOf-line}
 use Rattle.card.specs.declared.Loaded.{Loaded}
 use Rattle.card.specs.Card.{shape-on, trial-on, line-count, lines, due, malformed, by-form, first-line, further-line, Loading, refused, accepted, judged, further, from-first, load, ReadInto, Short}

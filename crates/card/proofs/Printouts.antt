@@ -10,7 +10,7 @@ use Rattle.text.proofs.Columns.{length-justified}
 use Rattle.text.proofs.Output.{written-none, written-column, written-byte}
 use Rattle.words.specs.Layout.{word, extent, read}
 use Rattle.words.proofs.Reading.{read-layout}
-use Rattle.archive.specs.declared.Answer.{Answer}
+use Rattle.calls.specs.declared.Answer.{Answer}
 use Rattle.card.specs.declared.Loaded.{Loaded}
 use Rattle.card.specs.Card.{lines, Loading, refused, accepted, load, ReadInto}
 use Rattle.card.specs.Report.{report-text, report, over, reported}

@@ -14,7 +14,7 @@ use Rattle.words.specs.Archive.{Archive}
 use Rattle.words.specs.Layout.{extent}
 use Rattle.words.specs.Format.{guard, shape-allowed}
 use Rattle.words.proofs.Passed.{shape-bounds}
-use Rattle.archive.specs.Calls.{empty, inserted, admission-rows}
+use Rattle.calls.specs.Calls.{empty, inserted, admission-rows}
 use Rattle.card.specs.Card.{shape-on, trial-on}
 use Rattle.card.specs.Verdict.{Verdict, refusal, archive, in-turn, shape-rows, judge-further, judge}
 use Rattle.card.specs.Theorems.{TurnedDown, form, shape, slice, number, coordinate, held, full}

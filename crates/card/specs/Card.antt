@@ -11,7 +11,7 @@ use Rattle.text.specs.Lines.{Numbers, line, lineFrom, numbersOf}
 use Rattle.text.specs.declared.Line.{Line}
 use Rattle.text.specs.declared.Line.the-variants.{Values, Malformed}
 use Rattle.words.specs.Archive.{Trial, Shape}
-use Rattle.archive.specs.Lent.{Outcome, start, insert}
+use Rattle.calls.specs.Lent.{Outcome, start, insert}
 use Rattle.card.specs.declared.Loaded.{Loaded}
 use Rattle.card.specs.declared.lines.Due.{Due}
 use Rattle.card.specs.declared.lines.Due.the-variants.{Next, End}

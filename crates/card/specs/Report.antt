@@ -8,8 +8,8 @@ use Rattle.text.specs.Columns.{justified}
 use Rattle.words.specs.Archive.{Row, Archive}
 use Rattle.words.specs.Layout.{word, read}
 use Rattle.words.specs.Format.{guard, archive-rows}
-use Rattle.archive.specs.declared.Answer.{Answer}
-use Rattle.archive.specs.Lent.{answer}
+use Rattle.calls.specs.declared.Answer.{Answer}
+use Rattle.calls.specs.Lent.{answer}
 
 -- Four numbers of eight bytes each, one of twenty, "every line ended by byte 10"; "its numbers are justified as on a
 -- card".

@@ -6,7 +6,7 @@ use lib.ListN.{length, take, drop}
 use Rattle.words.specs.Archive.{Archive, reference}
 use Rattle.words.specs.Layout.{extent, read, behind}
 use Rattle.words.specs.Format.{archive-rows}
-use Rattle.archive.specs.Counted.{IsCounted}
+use Rattle.calls.specs.Counted.{IsCounted}
 use Rattle.card.specs.Card.{lines, Loading, load}
 use Rattle.card.specs.Check.{packed, check}
 use Rattle.card.specs.Report.{report-text}

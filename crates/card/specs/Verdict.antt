@@ -11,7 +11,7 @@ use Rattle.text.specs.Lines.{Numbers}
 use Rattle.words.specs.Archive.{Shape, Archive}
 use Rattle.words.specs.Layout.{extent, layout}
 use Rattle.words.specs.Format.{guard, shape-allowed}
-use Rattle.archive.specs.Calls.{empty, inserted, admission-rows}
+use Rattle.calls.specs.Calls.{empty, inserted, admission-rows}
 use Rattle.card.specs.Card.{shape-on, trial-on, Loading, refused, accepted}
 
 -- The card is refused, with this number at this line; or the archive that it describes.

@@ -2,9 +2,9 @@
 use crate::Loaded;
 use crate::lines::Due;
 use crate::lines::read_line;
-use archive::insert;
-use archive::start;
 use hypervolume::Point;
+use insertion::insert;
+use insertion::start;
 use text::Line;
 ghost use mathlib.Core.Path.{_≡_};
 ghost use mathlib.Core.List.{_∷_, _++_, []};

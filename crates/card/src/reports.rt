@@ -1,5 +1,5 @@
 // The report call.
-use archive::Answer;
+use calls::Answer;
 use words::row_at;
 use words::shape_of;
 ghost use mathlib.Core.Path.{_≡_};

@@ -12,10 +12,10 @@ use Rattle.words.specs.Archive.{Shape, trials}
 use Rattle.words.specs.Layout.{extent}
 use Rattle.words.specs.Format.{shape-allowed, rows-allowed, ordered, distinct}
 use Rattle.words.proofs.Passed.{guard-none, Sound}
-use Rattle.archive.specs.Calls.{empty}
-use Rattle.archive.specs.Lent.{leaves, start-rows, start}
-use Rattle.archive.proofs.Counted.{empty-counted}
-use Rattle.archive.proofs.Lent.{leaves-refusal, leaves-done}
+use Rattle.calls.specs.Calls.{empty}
+use Rattle.calls.specs.Lent.{leaves, start-rows, start}
+use Rattle.calls.proofs.Counted.{empty-counted}
+use Rattle.calls.proofs.Lent.{leaves-refusal, leaves-done}
 use Rattle.history.specs.Book.{Book, book-turn, opened}
 use Rattle.history.specs.History.{Call, on-words, words-after, run-words, run-answers, request, run-book, book-answers, sorted, shape-of-book, fresh-archive, fresh, Agrees}
 use Rattle.history.proofs.Steps.{Holds, Agree, fresh-length, holds-length, step}

@@ -11,13 +11,13 @@ use Rattle.words.specs.Layout.{read}
 use Rattle.words.specs.Format.{guard, coordinates-allowed, held, archive-rows}
 use Rattle.words.proofs.Reading.{read-layout}
 use Rattle.words.proofs.Passed.{sound-passes}
-use Rattle.archive.specs.Calls.{held-trials, held-points, row-of, insert-gain, gain-rows, joint-of}
-use Rattle.archive.specs.Counted.{IsCounted, counted}
-use Rattle.archive.specs.Lent
-use Rattle.archive.specs.Lent.{answer}
-use Rattle.archive.proofs.Counted.{counted-audited}
-use Rattle.archive.proofs.Order.{held-of}
-use Rattle.archive.proofs.Ranking.{row-of-member}
+use Rattle.calls.specs.Calls.{held-trials, held-points, row-of, insert-gain, gain-rows, joint-of}
+use Rattle.calls.specs.Counted.{IsCounted, counted}
+use Rattle.calls.specs.Lent
+use Rattle.calls.specs.Lent.{answer}
+use Rattle.calls.proofs.Counted.{counted-audited}
+use Rattle.calls.proofs.Order.{held-of}
+use Rattle.calls.proofs.Ranking.{row-of-member}
 use Rattle.history.specs.Book.{Book, counted-contribution}
 use Rattle.history.specs.History.{sorted, shape-of-book, fresh-archive, fresh}
 use Rattle.history.specs.Kept.{HoldsJust, KeepsCounts}

@@ -11,13 +11,13 @@ use Rattle.slices.specs.Choices.{both}
 use Rattle.words.specs.Layout.{read}
 use Rattle.words.specs.Format.{guard, archive-rows}
 use Rattle.words.proofs.Passed.{guard-none, passes-again}
-use Rattle.archive.specs.Calls.{lowered, raised, inserted, row-of, removed, joint-of, joint-rows, after-drops, notes, reduce-rows}
-use Rattle.archive.specs.Lent.{answer, insert, remove, reduce, joint}
-use Rattle.archive.proofs.Counted.{audited-counted}
-use Rattle.archive.proofs.Sound.{insert-passed, remove-passed, inserted-sound}
-use Rattle.archive.proofs.Drops.{drops-down}
-use Rattle.archive.proofs.Moves.{new-held, still-held, row-lowered, kept-lowered, left-held, row-raised, kept-raised}
-use Rattle.archive.proofs.Lent.{insert-done, remove-done, reduce-done, done-reads, done-passes}
+use Rattle.calls.specs.Calls.{lowered, raised, inserted, row-of, removed, joint-of, joint-rows, after-drops, notes, reduce-rows}
+use Rattle.calls.specs.Lent.{answer, insert, remove, reduce, joint}
+use Rattle.calls.proofs.Counted.{audited-counted}
+use Rattle.calls.proofs.Sound.{insert-passed, remove-passed, inserted-sound}
+use Rattle.calls.proofs.Drops.{drops-down}
+use Rattle.calls.proofs.Moves.{new-held, still-held, row-lowered, kept-lowered, left-held, row-raised, kept-raised}
+use Rattle.calls.proofs.Lent.{insert-done, remove-done, reduce-done, done-reads, done-passes}
 use Rattle.history.specs.Moves.{Held, InsertionLowers, RemovalRaises, logged, ReductionDrops}
 
 -- The joint call on words that pass, for two numbers held.

@@ -16,9 +16,9 @@ use Rattle.hypervolume.proofs.Counting.{SameCover}
 use Rattle.words.specs.Archive.{Trial, Row, trials, points, before}
 use Rattle.slices.specs.Choices.{pick, either}
 use Rattle.words.specs.Format.{held, distinct}
-use Rattle.archive.specs.Calls.{place, others}
-use Rattle.archive.proofs.Members.{map-map, map-id, place-length, place-member, member-place, place-cover}
-use Rattle.archive.proofs.Order.{Ascending, ascending-place, held-place, distinct-place, before-trans, eqb-sym, others-trial}
+use Rattle.calls.specs.Calls.{place, others}
+use Rattle.calls.proofs.Members.{map-map, map-id, place-length, place-member, member-place, place-cover}
+use Rattle.calls.proofs.Order.{Ascending, ascending-place, held-place, distinct-place, before-trans, eqb-sym, others-trial}
 use Rattle.history.specs.Book.{has, struck-out}
 use Rattle.history.specs.History.{sorted}
 

@@ -11,8 +11,8 @@ use Rattle.hypervolume.proofs.Counting.{gain-first}
 use Rattle.words.specs.Archive.{Trial, Shape, Archive, trials, points, ascends, before}
 use Rattle.words.specs.Layout.{header, record-words, records, extent, layout, read-row, read-rows, read-shape, read, behind}
 use Rattle.words.specs.Format.{guard, within, shape-allowed, number-allowed, coordinates-allowed, header-allowed, row-allowed, rows-allowed, ordered, held, distinct, zeros, unused, records-allowed, archive-rows}
-use Rattle.archive.specs.Calls.{empty, place, insert-gain, joint-with, lowered, inserted, falls-below, insert-overruns, insert-rows, admission-rows, row-of, others, without, removal-loss, raised, removed, exceeds, remove-overruns, remove-rows, goes-first, least-from, least-row, least-rows, joint-of, joint-rows, gain-rows, share-of, rows-counted, audited, dropped, note, after-drops, notes, reduce-rows}
-use Rattle.archive.specs.Lent
+use Rattle.calls.specs.Calls.{empty, place, insert-gain, joint-with, lowered, inserted, falls-below, insert-overruns, insert-rows, admission-rows, row-of, others, without, removal-loss, raised, removed, exceeds, remove-overruns, remove-rows, goes-first, least-from, least-row, least-rows, joint-of, joint-rows, gain-rows, share-of, rows-counted, audited, dropped, note, after-drops, notes, reduce-rows}
+use Rattle.calls.specs.Lent
 use Rattle.history.specs.Stars.{Line, step-words, step-answer, answers, asked, Star, star, Met, AllMet, usual, done, small, largest, stars}
 
 small-met : AllMet small

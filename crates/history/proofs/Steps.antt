@@ -18,13 +18,13 @@ use Rattle.words.specs.Format.{guard, within, number-allowed, coordinates-allow
 use Rattle.words.proofs.Reading.{read-layout, length-layout, behind-layout}
 use Rattle.words.proofs.Passed.{Sound, sound-passes}
 use Rattle.words.proofs.Lent.{part-short}
-use Rattle.archive.specs.Calls.{held-trials, inserted, insert-overruns, admission-rows, insert-rows, removed, remove-overruns, remove-rows, audited, after-drops, notes, reduce-rows}
-use Rattle.archive.specs.Counted.{counted}
-use Rattle.archive.proofs.Members.{split}
-use Rattle.archive.proofs.Counted.{counted-audited, counted-insert, insert-fits, remove-fits}
-use Rattle.archive.proofs.Sound.{InsertPassed, inserted-sound, removed-sound}
-use Rattle.archive.specs.Lent
-use Rattle.archive.specs.Lent.{Outcome, leaves}
+use Rattle.calls.specs.Calls.{held-trials, inserted, insert-overruns, admission-rows, insert-rows, removed, remove-overruns, remove-rows, audited, after-drops, notes, reduce-rows}
+use Rattle.calls.specs.Counted.{counted}
+use Rattle.calls.proofs.Members.{split}
+use Rattle.calls.proofs.Counted.{counted-audited, counted-insert, insert-fits, remove-fits}
+use Rattle.calls.proofs.Sound.{InsertPassed, inserted-sound, removed-sound}
+use Rattle.calls.specs.Lent
+use Rattle.calls.specs.Lent.{Outcome, leaves}
 use Rattle.history.specs.Book.{Book, Turn, refuse-if, row-1, has, entered, struck, thinned, book-notes, book-insert, book-remove, book-reduce, book-turn}
 use Rattle.history.specs.History.{Call, on-words, lent-of, answered, request, log-of, expected, sorted, shape-of-book, fresh-archive, fresh}
 use Rattle.history.proofs.Sorting.{has-held, sorted-held}

@@ -13,12 +13,12 @@ use Rattle.words.specs.Archive.{Trial, Row, point, points}
 use Rattle.slices.specs.Choices.{pick}
 use Rattle.words.specs.Format.{held, distinct}
 use Rattle.words.proofs.Passed.{Sound}
-use Rattle.archive.specs.Calls.{held-trials, without, removed, least-row, dropped, note, after-drops, notes}
-use Rattle.archive.specs.Counted.{IsCounted, counted-row, counted}
-use Rattle.archive.proofs.Members.{map-on, map-members}
-use Rattle.archive.proofs.Counted.{counted-trials, counted-is-counted, counted-remove}
-use Rattle.archive.proofs.Ranking.{less, ties, leads-self, Leader, LeastOf, least-alone, least-settled, least-row-is, least-one}
-use Rattle.archive.proofs.Drops.{leaving, drop-keeps}
+use Rattle.calls.specs.Calls.{held-trials, without, removed, least-row, dropped, note, after-drops, notes}
+use Rattle.calls.specs.Counted.{IsCounted, counted-row, counted}
+use Rattle.calls.proofs.Members.{map-on, map-members}
+use Rattle.calls.proofs.Counted.{counted-trials, counted-is-counted, counted-remove}
+use Rattle.calls.proofs.Ranking.{less, ties, leads-self, Leader, LeastOf, least-alone, least-settled, least-row-is, least-one}
+use Rattle.calls.proofs.Drops.{leaving, drop-keeps}
 use Rattle.history.specs.Book.{Book, counted-contribution, rather, least-of, least-trial, struck, struck-out, book-note, thinned, book-notes}
 use Rattle.history.specs.History.{sorted, shape-of-book, fresh-archive}
 use Rattle.history.proofs.Sorting.{sorted-length, sorted-distinct, sorted-cover, sorted-member, member-sorted, struck-trials, sorted-struck}

@@ -1,15 +1,15 @@
 -- A history of calls on words and its agreement with the trial book (document 00, term 3). The run on words uses
--- the definitions that the contracts of the calls cite (Rattle.archive.specs.Lent), so the claim speaks of the code.
+-- the definitions that the contracts of the calls cite (Rattle.calls.specs.Lent), so the claim speaks of the code.
 use Prim.Native.Nat.{ℕ, min}
 use mathlib.Core.Path.{_≡_}
 use mathlib.Core.List.{List, _∷_, _++_, []}
 use lib.ListN.{length, take, drop}
 use Rattle.words.specs.Archive.{Trial, Shape, Archive}
 use Rattle.words.specs.Layout.{layout, extent}
-use Rattle.archive.specs.Calls.{place}
-use Rattle.archive.specs.Counted.{counted}
-use Rattle.archive.specs.Lent
-use Rattle.archive.specs.Lent.{Outcome, start}
+use Rattle.calls.specs.Calls.{place}
+use Rattle.calls.specs.Counted.{counted}
+use Rattle.calls.specs.Lent
+use Rattle.calls.specs.Lent.{Outcome, start}
 use Rattle.history.specs.Book.{Book, Request, Reply, book-turn, opened}
 
 -- A call of the list: "each call is lent the words that the last one left, or only a first part of them" (lent, how

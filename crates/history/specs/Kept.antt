@@ -9,8 +9,8 @@ use Rattle.hypervolume.specs.Counts
 use Rattle.words.specs.Archive.{Trial, Row, Shape, point, reference, points}
 use Rattle.words.specs.Layout.{read}
 use Rattle.words.specs.Format.{coordinates-allowed, archive-rows}
-use Rattle.archive.specs.Calls.{row-of}
-use Rattle.archive.specs.Lent
+use Rattle.calls.specs.Calls.{row-of}
+use Rattle.calls.specs.Lent
 
 -- The words pass rows 1 to 3 (so the records stand in order, each number once) and hold these trials and no other.
 pub record HoldsJust (w : List ℕ) (s : Shape) (trials : List Trial) : Type 0 where

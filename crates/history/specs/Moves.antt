@@ -1,5 +1,5 @@
 -- What one call that is done moves, on any archive (document 00, term 3, its last two sentences). Words before and
--- after the call are those of the definitions that the contracts cite (Rattle.archive.specs.Lent), read as archives;
+-- after the call are those of the definitions that the contracts cite (Rattle.calls.specs.Lent), read as archives;
 -- "contributions and totals before and after a call are the kept ones" (document 01).
 use Prim.Native.Nat.{ℕ, _+_, _*_}
 use mathlib.Core.Path.{_≡_}
@@ -9,9 +9,9 @@ use lib.ListN.{length, take}
 use Rattle.words.specs.Archive.{Trial, Row}
 use Rattle.words.specs.Layout.{read}
 use Rattle.words.specs.Format.{held}
-use Rattle.archive.specs.Calls.{held-trials, row-of}
-use Rattle.archive.specs.Drops.{Drops, noted-sum}
-use Rattle.archive.specs.Lent.{insert, remove, reduce, joint}
+use Rattle.calls.specs.Calls.{held-trials, row-of}
+use Rattle.calls.specs.Drops.{Drops, noted-sum}
+use Rattle.calls.specs.Lent.{insert, remove, reduce, joint}
 
 -- These words hold a trial of this number; its record there.
 abbrev pub Held : List ℕ → ℕ → Type 0

@@ -6,9 +6,9 @@ use mathlib.Core.List.{List, _∷_, []}
 use lib.ListN.{replicate}
 use Rattle.words.specs.Archive.{Shape}
 use Rattle.words.specs.Layout.{word, read, extent}
-use Rattle.archive.specs.Calls.{row-of}
-use Rattle.archive.specs.Lent
-use Rattle.archive.specs.Lent.{trial-of}
+use Rattle.calls.specs.Calls.{row-of}
+use Rattle.calls.specs.Lent
+use Rattle.calls.specs.Lent.{trial-of}
 
 -- A call or a question put to an archive's words.
 pub data Step : Type 0 where

@@ -4,7 +4,7 @@ use mathlib.Core.Path.{_≡_}
 use mathlib.Core.List.{List}
 use lib.ListN.{length}
 use Rattle.words.specs.Archive.{Trial, Shape}
-use Rattle.archive.specs.Lent.{start}
+use Rattle.calls.specs.Lent.{start}
 use Rattle.history.specs.Book.{opened}
 use Rattle.history.specs.History.{Call, run-words, run-book, Agrees}
 use Rattle.history.specs.Kept.{HoldsJust, KeepsCounts}

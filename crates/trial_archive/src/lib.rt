@@ -1,12 +1,12 @@
 // The C boundary: one exported function per call, each with the contract of the call itself. `include/trial_archive.h`
 // documents them for C.
-use archive::Answer;
-use archive::LeastAnswer;
+use calls::Answer;
+use calls::LeastAnswer;
 use card::Loaded;
 use hypervolume::Point;
 ghost use mathlib.Core.Path.{_≡_};
 ghost use mathlib.Core.List.{_∷_, []};
-ghost use Rattle.archive.specs.Lent.{start, insert, remove, least, reduce, joint, gain-answer, share, audit, trial-of, shape-of, Reduced};
+ghost use Rattle.calls.specs.Lent.{start, insert, remove, least, reduce, joint, gain-answer, share, audit, trial-of, shape-of, Reduced};
 ghost use Rattle.card.specs.Card.{load};
 ghost use Rattle.card.specs.Check.{check};
 ghost use Rattle.card.specs.Report.{report, reported};
@@ -22,63 +22,63 @@ fn point(x: u32, y: u32, z: u32) -> Point
 pub extern "C" fn ta_start(words: &mut [u64], rx: u32, ry: u32, rz: u32, capacity: u64) -> u64
     ensures { λ r. ⌜ (r ≡ start (now (words .entry)) (shape-of capacity (rx ∷ ry ∷ rz ∷ [])) .refusal) × (now (words .exit) ≡ start (now (words .entry)) (shape-of capacity (rx ∷ ry ∷ rz ∷ [])) .words) ⌝ }
 {
-    archive::start(words, point(rx, ry, rz), capacity)
+    insertion::start(words, point(rx, ry, rz), capacity)
 }
 
 #[no_mangle]
 pub extern "C" fn ta_insert(words: &mut [u64], number: u64, x: u32, y: u32, z: u32) -> u64
     ensures { λ r. ⌜ (r ≡ insert (now (words .entry)) (trial-of number (x ∷ y ∷ z ∷ [])) .refusal) × (now (words .exit) ≡ insert (now (words .entry)) (trial-of number (x ∷ y ∷ z ∷ [])) .words) ⌝ }
 {
-    archive::insert(words, number, point(x, y, z))
+    insertion::insert(words, number, point(x, y, z))
 }
 
 #[no_mangle]
 pub extern "C" fn ta_remove(words: &mut [u64], number: u64) -> u64
     ensures { λ r. ⌜ (r ≡ remove (now (words .entry)) number .refusal) × (now (words .exit) ≡ remove (now (words .entry)) number .words) ⌝ }
 {
-    archive::remove(words, number)
+    removal::remove(words, number)
 }
 
 #[no_mangle]
 pub extern "C" fn ta_least(words: &[u64]) -> LeastAnswer
     ensures { λ r. ⌜ r ≡ least (now (words .entry)) ⌝ }
 {
-    archive::least(words)
+    ask::least(words)
 }
 
 #[no_mangle]
 pub extern "C" fn ta_reduce(words: &mut [u64], k: u64, log: &mut [u64]) -> Answer
     ensures { λ r. ⌜ Reduced (reduce (now (words .entry)) k (now (log .entry))) r (now (words .exit)) (now (log .exit)) ⌝ }
 {
-    archive::reduce(words, k, log)
+    removal::reduce(words, k, log)
 }
 
 #[no_mangle]
 pub extern "C" fn ta_joint(words: &[u64], first: u64, second: u64) -> Answer
     ensures { λ r. ⌜ r ≡ joint (now (words .entry)) first second ⌝ }
 {
-    archive::joint(words, first, second)
+    ask::joint(words, first, second)
 }
 
 #[no_mangle]
 pub extern "C" fn ta_gain(words: &[u64], x: u32, y: u32, z: u32) -> Answer
     ensures { λ r. ⌜ r ≡ gain-answer (now (words .entry)) (trial-of 0 (x ∷ y ∷ z ∷ [])) ⌝ }
 {
-    archive::gain(words, point(x, y, z))
+    ask::gain(words, point(x, y, z))
 }
 
 #[no_mangle]
 pub extern "C" fn ta_share(words: &[u64]) -> Answer
     ensures { λ r. ⌜ r ≡ share (now (words .entry)) ⌝ }
 {
-    archive::share(words)
+    ask::share(words)
 }
 
 #[no_mangle]
 pub extern "C" fn ta_audit(words: &[u64]) -> Answer
     ensures { λ r. ⌜ r ≡ audit (now (words .entry)) ⌝ }
 {
-    archive::audit(words)
+    ask::audit(words)
 }
 
 #[no_mangle]

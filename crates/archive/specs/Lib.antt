@@ -1,8 +1,0 @@
--- What each call answers and leaves: document 01, "Calls" and "Where each call is turned down". Read Calls, then Lent;
--- Counted is what the audit's yes means, Drops what a reduction drops. Columns and Amounts are of the inner functions alone.
-pub mod Calls
-pub mod Lent
-pub mod Counted
-pub mod Drops
-pub mod Columns
-pub mod Amounts

@@ -1,0 +1,2 @@
+-- Laws of the division.
+pub mod Digits

@@ -1,0 +1,4 @@
+-- Laws of the questions.
+pub mod Asking
+pub mod Joints
+pub mod Audits

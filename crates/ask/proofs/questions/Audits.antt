@@ -1,0 +1,52 @@
+-- The audit: the kept contributions beside their counts, pair by pair.
+use Prim.Native.Nat.{ℕ}
+use mathlib.Core.Path.{_≡_, refl, sym, ap, ap₂, _∙_}
+use mathlib.Core.Bool.{Bool, true, false, not}
+use mathlib.Core.List.{List, _∷_, map, []}
+use lib.Dec.{eqb}
+use borrow.Author.Tests.{eq-eqb, ne-eqb}
+use lib.ListN.{take}
+use lib.Seq.{take-at}
+use Rattle.slices.specs.Choices.{both, either}
+use Rattle.hypervolume.specs.Counts.{total, contribution, contributions}
+use Rattle.words.specs.Archive.{Row, Archive, point, trials, points}
+use Rattle.words.specs.Layout.{read, word, record-words}
+use Rattle.calls.specs.Calls.{reference-of, held-points, rows-counted, audited}
+use Rattle.records.specs.Columns.{field-of, column}
+use Rattle.records.specs.Amounts.{some-pair}
+use Rattle.ask.specs.RecordCounts.{CountedAll}
+use Rattle.ask.proofs.questions.Joints.{length-each}
+use Rattle.calls.proofs.Known.{count-rows}
+
+-- Each contribution equals its count: no pair of them differs.
+neither : (b c d : Bool) → c ≡ not d → both b c ≡ not (either (not b) d)
+unfolding both either
+neither true c d e = e
+neither false c d e = refl
+
+pub counted-pairs : (a : Archive) (rows : List Row)
+    → rows-counted a rows ≡ not (some-pair (λ v m. not (eqb v m)) (column 4 rows) (map (λ t. contribution (reference-of a) (held-points a) t) (points (trials rows))))
+unfolding rows-counted some-pair column field-of record-words points trials
+counted-pairs a [] = refl
+counted-pairs a (r ∷ rows) = neither (eqb (r .kept) (contribution (reference-of a) (held-points a) (point (r .trial)))) _ _ (counted-pairs a rows)
+
+-- The counts in front of what the slice held.
+pub counts-front : (w before after : List ℕ) (r : ℕ) → CountedAll w before after r
+    → take (word w 0) after ≡ contributions (reference-of (read w)) (held-points (read w))
+unfolding contributions
+counts-front w before after r c =
+    ap (take (word w 0)) (c .each)
+    ∙ take-at (contributions (reference-of (read w)) (held-points (read w))) _ (word w 0) (length-each _ (read w .rows) ∙ count-rows w)
+
+pub total-differs : (w : List ℕ) (r : ℕ) → r ≡ total (reference-of (read w)) (held-points (read w)) → (word w 5 ≡ r → ⊥) → false ≡ audited (read w)
+unfolding audited both read
+total-differs w r e n = sym (ap (λ b. both b (rows-counted (read w) (read w .rows))) (ne-eqb _ _ (λ z. n (z ∙ sym e))))
+
+pub total-equals : (w vs ms : List ℕ) (r : ℕ) (b : Bool) → r ≡ total (reference-of (read w)) (held-points (read w)) → word w 5 ≡ r
+    → vs ≡ column 4 (read w .rows) → ms ≡ contributions (reference-of (read w)) (held-points (read w))
+    → b ≡ some-pair (λ v m. not (eqb v m)) vs ms → not b ≡ audited (read w)
+unfolding audited both read contributions
+total-equals w vs ms r b e s v m d =
+    ap not (d ∙ ap₂ (some-pair (λ v m. not (eqb v m))) v m)
+    ∙ sym (counted-pairs (read w) (read w .rows))
+    ∙ sym (ap (λ t. both t (rows-counted (read w) (read w .rows))) (eq-eqb _ _ (s ∙ e)))

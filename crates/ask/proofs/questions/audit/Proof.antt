@@ -1,0 +1,29 @@
+-- `audit` meets its contract: rows 1 to 3 refuse, or the answer is yes or no.
+use mathlib.Core.Path.{refl, sym, ap, _∙_}
+use Rattle.hypervolume.specs.Cells.{holds}
+use Rattle.calls.specs.Lent.{audit}
+use Rattle.ask.proofs.questions.Asking.{answer-turned, answer-value}
+use borrow.Author.Needs.{needs}
+use Rattle.ask.proofs.questions.audit.Statement.{statement}
+use Rattle.ask.proofs.questions.audit.Tie as tie
+
+refusal-requires : tie.Need-refusal-requires
+refusal-requires c κs = search needs
+
+returns : tie.Need-returns
+unfolding audit
+returns c = answer-turned _ _ _ _ (c .before .refusal .ensures) (c .if1 .taken)
+
+audited-requires : tie.Need-audited-requires
+audited-requires c κs = search needs
+
+returns-2 : tie.Need-returns-2
+unfolding audit holds
+returns-2 c = answer-value (c .before .before .before .before .before .args .w .now) 0 1 _ (sym (c .before .before .before .refusal .ensures) ∙ c .before .before .if1 .left) refl (ap holds (sym (c .if2 .taken) ∙ c .before .audited .ensures))
+
+returns-3 : tie.Need-returns-3
+unfolding audit holds
+returns-3 c = answer-value (c .before .before .before .before .before .args .w .now) 0 0 _ (sym (c .before .before .before .refusal .ensures) ∙ c .before .before .if1 .left) refl (ap holds (sym (c .if2 .left) ∙ c .before .audited .ensures))
+
+pub audit-spec : {M : Type 1} → statement M
+audit-spec = tie.close (tie.spec refusal-requires returns audited-requires returns-2 returns-3)

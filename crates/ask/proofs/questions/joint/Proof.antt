@@ -1,0 +1,22 @@
+-- `joint` meets its contract: rows 1 to 3 refuse, or the inner function answers.
+use Rattle.ask.proofs.questions.Asking.{answer-turned}
+use Rattle.calls.specs.Lent.{joint}
+use borrow.Author.Needs.{needs}
+use Rattle.ask.proofs.questions.joint.Statement.{statement}
+use Rattle.ask.proofs.questions.joint.Tie as tie
+
+refusal-requires : tie.Need-refusal-requires
+refusal-requires c κs = search needs
+
+returns : tie.Need-returns
+unfolding joint
+returns c = answer-turned _ _ _ _ (c .before .refusal .ensures) (c .if1 .taken)
+
+joint-in-requires : tie.Need-joint-in-requires
+joint-in-requires c κs = search needs
+
+returns-2 : tie.Need-returns-2
+returns-2 c = search needs
+
+pub joint-spec : {M : Type 1} → statement M
+joint-spec = tie.close (tie.spec refusal-requires returns joint-in-requires returns-2)

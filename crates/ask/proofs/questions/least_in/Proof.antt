@@ -1,0 +1,27 @@
+-- `least_in` meets its contract: row 14, or the record at the place found.
+use mathlib.Core.Path.{_∙_}
+use native.Mathlib.Omega.{arith}
+use Rattle.words.specs.Places.{as-row}
+use Rattle.calls.proofs.Known.{known}
+use Rattle.ask.proofs.questions.Asking.{least-none-held, least-found}
+use Rattle.ask.proofs.questions.least_in.Statement.{statement}
+use Rattle.ask.proofs.questions.least_in.Tie as tie
+
+shared-slice-read-n : tie.Need-shared-slice-read-n
+shared-slice-read-n c = omega (arith, known (c .before .before .args .w .now) (c .before .before .pre))
+
+returns : tie.Need-returns
+returns c = least-none-held (c .before .before .before .args .w .now) (c .before .before .before .pre) (c .if1 .taken)
+
+least-place-requires : tie.Need-least-place-requires
+least-place-requires c κs = omega (arith, known (c .before .before .before .args .w .now) (c .before .before .before .pre), c .if1 .left)
+
+row-at-requires : tie.Need-row-at-requires
+row-at-requires c κs = omega (arith, known (c .before .before .before .before .args .w .now) (c .before .before .before .before .pre), c .least-place .ensures .0)
+
+returns-2 : tie.Need-returns-2
+returns-2 c = least-found (c .before .before .before .before .before .args .w .now) (as-row (c .row-at .result)) (c .before .before .before .before .before .pre) (c .before .before .if1 .left) (c .row-at .ensures ∙ c .before .least-place .ensures .1)
+
+pub least-in-spec : {M : Type 1} → statement M
+least-in-spec =
+    tie.close (tie.spec shared-slice-read-n returns least-place-requires row-at-requires returns-2)

@@ -1,0 +1,22 @@
+-- `share` meets its contract: rows 1 to 3 refuse, or the inner function answers.
+use Rattle.ask.proofs.questions.Asking.{answer-turned}
+use Rattle.calls.specs.Lent.{share}
+use borrow.Author.Needs.{needs}
+use Rattle.ask.proofs.questions.share.Statement.{statement}
+use Rattle.ask.proofs.questions.share.Tie as tie
+
+refusal-requires : tie.Need-refusal-requires
+refusal-requires c κs = search needs
+
+returns : tie.Need-returns
+unfolding share
+returns c = answer-turned _ _ _ _ (c .before .refusal .ensures) (c .if1 .taken)
+
+share-in-requires : tie.Need-share-in-requires
+share-in-requires c κs = search needs
+
+returns-2 : tie.Need-returns-2
+returns-2 c = search needs
+
+pub share-spec : {M : Type 1} → statement M
+share-spec = tie.close (tie.spec refusal-requires returns share-in-requires returns-2)

@@ -1,0 +1,22 @@
+-- What counting the records of an archive leaves. Used by the contracts of the inner functions; no exported contract
+-- cites it.
+use Prim.Native.Nat.{ℕ}
+use mathlib.Core.Path.{_≡_}
+use mathlib.Core.List.{List, _++_}
+use lib.ListN.{length, drop}
+use Rattle.hypervolume.specs.Counts.{total, contributions, gain, joints}
+use Rattle.words.specs.Archive.{trials, points}
+use Rattle.words.specs.Layout.{read}
+use Rattle.calls.specs.Calls.{reference-of, held-points}
+use Rattle.records.specs.Columns.{leave-out}
+
+-- What counting leaves: the total, and each record's contribution in front of what the slice held.
+pub record CountedAll (w before after : List ℕ) (answer : ℕ) : Type 0 where
+  pub whole : answer ≡ total (reference-of (read w)) (held-points (read w))
+  pub each : after ≡ contributions (reference-of (read w)) (held-points (read w)) ++ drop (length (read w .rows)) before
+
+-- The same for a point p and the records but the one at place k: its gain, and its joint count with each.
+pub record CountedJoints (w : List ℕ) (k : ℕ) (p before after : List ℕ) (answer : ℕ) : Type 0 where
+  pub whole : answer ≡ gain (reference-of (read w)) (points (trials (leave-out k (read w .rows)))) p
+  pub each :
+      after ≡ joints (reference-of (read w)) (points (trials (leave-out k (read w .rows)))) p ++ drop (length (leave-out k (read w .rows))) before

@@ -1,0 +1,74 @@
+// Counted amounts of the records that the words hold: one call of the sweep each.
+use hypervolume::Point;
+use records::load;
+use words::Row;
+use words::Shape;
+use words::shape_of;
+ghost use mathlib.Core.Path.{_≡_};
+ghost use mathlib.Core.Bool.{true};
+ghost use Prim.Native.Nat.{_≤_};
+ghost use lib.ListN.{length};
+ghost use Rattle.sweep.specs.Points.{Small};
+ghost use Rattle.words.specs.Archive.{reference, point};
+ghost use Rattle.words.specs.Layout.{word};
+ghost use Rattle.words.specs.Format.{archive-rows, shape-allowed};
+ghost use Rattle.words.specs.Places.{as-row, as-shape};
+ghost use Rattle.ask.specs.RecordCounts.{CountedAll, CountedJoints};
+
+// The reference as a point.
+pub fn reference_of(s: Shape) -> Point
+    requires { ⌜ shape-allowed (as-shape s) ≡ true ⌝ }
+    ensures { λ r. ⌜ r .at ≡ reference (as-shape s) ⌝ }
+{
+    Point {
+        at: [s.rx as u32, s.ry as u32, s.rz as u32],
+    }
+}
+
+// A record's point, whose coordinates are at most 1,048,576.
+pub fn point_of(row: Row) -> Point
+    requires { ⌜ Small (point (as-row row .trial)) ⌝ }
+    ensures { λ r. ⌜ r .at ≡ point (as-row row .trial) ⌝ }
+{
+    Point {
+        at: [row.x as u32, row.y as u32, row.z as u32],
+    }
+}
+
+// The total of all records, and in `out` the contribution of each.
+pub fn count_all(w: &[u64], out: &mut [u64]) -> u64
+    requires { ⌜ (archive-rows (now w) 0 ≡ 0) × (512 ≤ length (now out)) ⌝ }
+    ensures { λ r. ⌜ CountedAll (now (w .entry)) (now (out .entry)) (now (out .exit)) r ⌝ }
+{
+    let n = w[0] as usize;
+    let mut xs = [0u64; 512];
+    let mut ys = [0u64; 512];
+    let mut zs = [0u64; 512];
+    let m = load(w, n, 1, n, &mut xs);
+    load(w, n, 2, n, &mut ys);
+    load(w, n, 3, n, &mut zs);
+    sweep::sweep(&xs[..m], &ys[..m], &zs[..m], reference_of(shape_of(w)), out)
+}
+
+// The gain of p over the records but the one at place `skip` (over all where skip is the count), and in `out` its joint
+// count with each of them.
+pub fn count_joints(w: &[u64], skip: usize, p: Point, out: &mut [u64]) -> u64
+    requires { ⌜ (archive-rows (now w) 0 ≡ 0) × (skip ≤ word (now w) 0) × (512 ≤ length (now out)) × Small (p .at) ⌝ }
+    ensures { λ r. ⌜ CountedJoints (now (w .entry)) skip (p .at) (now (out .entry)) (now (out .exit)) r ⌝ }
+{
+    let n = w[0] as usize;
+    let mut xs = [0u64; 512];
+    let mut ys = [0u64; 512];
+    let mut zs = [0u64; 512];
+    let m = load(w, n, 1, skip, &mut xs);
+    load(w, n, 2, skip, &mut ys);
+    load(w, n, 3, skip, &mut zs);
+    corners::update(
+        &xs[..m],
+        &ys[..m],
+        &zs[..m],
+        p,
+        reference_of(shape_of(w)),
+        out,
+    )
+}

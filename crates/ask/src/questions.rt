@@ -1,0 +1,232 @@
+// The calls that only read: least, joint, gain, share, audit. Behind each stands an inner function for words that
+// rows 1 to 3 let pass.
+use crate::counts::count_all;
+use crate::counts::count_joints;
+use crate::counts::point_of;
+use crate::division::millionths;
+use calls::Answer;
+use calls::LeastAnswer;
+use hypervolume::Point;
+use records::least_place;
+use records::load;
+use records::some_differs;
+use words::Row;
+use words::box_of;
+use words::coordinates_allowed;
+use words::find;
+use words::refusal;
+use words::row_at;
+use words::shape_of;
+ghost use mathlib.Core.Path.{_≡_};
+ghost use Prim.Native.Nat.{_<_};
+ghost use Rattle.words.specs.Layout.{word, read};
+ghost use Rattle.words.specs.Format.{archive-rows};
+ghost use Rattle.words.specs.Places.{as-row, row-at};
+ghost use Rattle.calls.specs.Calls.{audited, joint-of};
+ghost use Rattle.calls.specs.Lent.{least, share, joint, gain-answer, audit, trial-of};
+
+// Row 14 where no trial is held.
+fn least_in(w: &[u64]) -> LeastAnswer
+    requires { ⌜ archive-rows (now w) 0 ≡ 0 ⌝ }
+    ensures { λ r. ⌜ r ≡ least (now (w .entry)) ⌝ }
+{
+    let n = w[0] as usize;
+    if n == 0 {
+        return LeastAnswer {
+            refusal: 14,
+            number: 0,
+            contribution: 0,
+        };
+    }
+    let row = row_at(w, least_place(w, n));
+    LeastAnswer {
+        refusal: 0,
+        number: row.number,
+        contribution: row.kept,
+    }
+}
+
+// Least: number and kept contribution of the least contributor.
+pub fn least(w: &[u64]) -> LeastAnswer
+    ensures { λ r. ⌜ r ≡ least (now (w .entry)) ⌝ }
+{
+    let refused = refusal(w);
+    if refused != 0 {
+        return LeastAnswer {
+            refusal: refused,
+            number: 0,
+            contribution: 0,
+        };
+    }
+    least_in(w)
+}
+
+// The joint contribution of the trials at two places: among the others of the first, the second stands one place
+// lower where it comes behind it.
+fn joint_at(w: &[u64], i: usize, k: usize) -> u64
+    requires { ⌜ (archive-rows (now w) 0 ≡ 0) × (i < word (now w) 0) × (k < word (now w) 0) × (i ≡ k → ⊥) ⌝ }
+    ensures { λ r. ⌜ r ≡ joint-of (read (now (w .entry))) (row-at (now (w .entry)) i .trial .number) (row-at (now (w .entry)) k .trial .number) ⌝ }
+{
+    let mut joints = [0u64; 512];
+    count_joints(w, i, point_of(row_at(w, i)), &mut joints);
+    if i < k {
+        return joints[k - 1];
+    }
+    joints[k]
+}
+
+// Rows 9 and 10.
+fn joint_in(w: &[u64], first: u64, second: u64) -> Answer
+    requires { ⌜ archive-rows (now w) 0 ≡ 0 ⌝ }
+    ensures { λ r. ⌜ r ≡ joint (now (w .entry)) first second ⌝ }
+{
+    let n = w[0] as usize;
+    let i = find(w, first);
+    if n <= i {
+        return Answer {
+            refusal: 9,
+            value: 0,
+        };
+    }
+    let k = find(w, second);
+    if n <= k {
+        return Answer {
+            refusal: 9,
+            value: 0,
+        };
+    }
+    if first == second {
+        return Answer {
+            refusal: 10,
+            value: 0,
+        };
+    }
+    Answer {
+        refusal: 0,
+        value: joint_at(w, i, k),
+    }
+}
+
+// Joint (two numbers): cells that both trials dominate and no third does.
+pub fn joint(w: &[u64], first: u64, second: u64) -> Answer
+    ensures { λ r. ⌜ r ≡ joint (now (w .entry)) first second ⌝ }
+{
+    let refused = refusal(w);
+    if refused != 0 {
+        return Answer {
+            refusal: refused,
+            value: 0,
+        };
+    }
+    joint_in(w, first, second)
+}
+
+// A record at this point, without a number.
+fn row_at_point(p: Point) -> Row
+    ensures { λ r. ⌜ as-row r .trial ≡ trial-of 0 (p .at) ⌝ }
+{
+    Row {
+        number: 0,
+        x: p.at[0] as u64,
+        y: p.at[1] as u64,
+        z: p.at[2] as u64,
+        kept: 0,
+    }
+}
+
+// Row 6 where the point is not allowed.
+fn gain_in(w: &[u64], p: Point) -> Answer
+    requires { ⌜ archive-rows (now w) 0 ≡ 0 ⌝ }
+    ensures { λ r. ⌜ r ≡ gain-answer (now (w .entry)) (trial-of 0 (p .at)) ⌝ }
+{
+    let row = row_at_point(p);
+    if !coordinates_allowed(shape_of(w), row) {
+        return Answer {
+            refusal: 6,
+            value: 0,
+        };
+    }
+    let mut joints = [0u64; 512];
+    let n = w[0] as usize;
+    Answer {
+        refusal: 0,
+        value: count_joints(w, n, point_of(row), &mut joints),
+    }
+}
+
+// Gain (point): cells that it dominates and no trial does.
+pub fn gain(w: &[u64], p: Point) -> Answer
+    ensures { λ r. ⌜ r ≡ gain-answer (now (w .entry)) (trial-of 0 (p .at)) ⌝ }
+{
+    let refused = refusal(w);
+    if refused != 0 {
+        return Answer {
+            refusal: refused,
+            value: 0,
+        };
+    }
+    gain_in(w, p)
+}
+
+fn share_in(w: &[u64]) -> Answer
+    requires { ⌜ archive-rows (now w) 0 ≡ 0 ⌝ }
+    ensures { λ r. ⌜ r ≡ share (now (w .entry)) ⌝ }
+{
+    Answer {
+        refusal: 0,
+        value: millionths(w[5], box_of(shape_of(w))),
+    }
+}
+
+// Share: the kept total in millionths of the box, rounded down.
+pub fn share(w: &[u64]) -> Answer
+    ensures { λ r. ⌜ r ≡ share (now (w .entry)) ⌝ }
+{
+    let refused = refusal(w);
+    if refused != 0 {
+        return Answer {
+            refusal: refused,
+            value: 0,
+        };
+    }
+    share_in(w)
+}
+
+// Whether the total and all contributions equal their counts.
+pub fn audited(w: &[u64]) -> bool
+    requires { ⌜ archive-rows (now w) 0 ≡ 0 ⌝ }
+    ensures { λ r. ⌜ r ≡ audited (read (now (w .entry))) ⌝ }
+{
+    let n = w[0] as usize;
+    let mut counts = [0u64; 512];
+    let mut kept = [0u64; 512];
+    let total = count_all(w, &mut counts);
+    load(w, n, 4, n, &mut kept);
+    if w[5] != total {
+        return false;
+    }
+    !some_differs(&kept[..n], &counts[..n])
+}
+
+// Audit: 1 for yes.
+pub fn audit(w: &[u64]) -> Answer
+    ensures { λ r. ⌜ r ≡ audit (now (w .entry)) ⌝ }
+{
+    let refused = refusal(w);
+    if refused != 0 {
+        return Answer {
+            refusal: refused,
+            value: 0,
+        };
+    }
+    if audited(w) {
+        return Answer {
+            refusal: 0,
+            value: 1,
+        };
+    }
+    Answer {
+        refusal: 0,
+        value: 0,
+    }
+}

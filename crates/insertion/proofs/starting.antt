@@ -1,0 +1,2 @@
+-- Laws of start.
+pub mod Outcomes

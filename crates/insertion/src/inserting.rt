@@ -1,0 +1,139 @@
+// Insert: rows 5 to 8 and 13, then the record in its place and every contribution moved by the counted amount.
+use ask::count_joints;
+use ask::point_of;
+use hypervolume::Point;
+use records::Moved;
+use records::enter;
+use records::keep;
+use records::load;
+use records::lower;
+use records::some_below;
+use words::Row;
+use words::box_of;
+use words::coordinates_allowed;
+use words::find;
+use words::number_allowed;
+use words::refusal;
+use words::shape_of;
+ghost use mathlib.Core.Path.{_≡_};
+ghost use mathlib.Core.Bool.{true};
+ghost use mathlib.Core.List.{_++_};
+ghost use Prim.Native.Nat.{_≤_, _<_};
+ghost use lib.ListN.{length};
+ghost use Rattle.slices.specs.Choices.{pick};
+ghost use Rattle.words.specs.Layout.{layout, read, behind};
+ghost use Rattle.words.specs.Format.{guard, archive-rows, coordinates-allowed};
+ghost use Rattle.words.specs.Places.{as-row};
+ghost use Rattle.calls.specs.Calls.{admission-rows, insert-overruns, inserted};
+ghost use Rattle.calls.specs.Lent.{insert, trial-of};
+ghost use Rattle.insertion.specs.Inserting.{Lowered, Storing};
+
+// A record of this number and point, with no contribution yet.
+pub fn row_of(number: u64, p: Point) -> Row
+    ensures { λ r. ⌜ as-row r ≡ record { trial = trial-of number (p .at); kept = 0 } ⌝ }
+{
+    Row {
+        number,
+        x: p.at[0] as u64,
+        y: p.at[1] as u64,
+        z: p.at[2] as u64,
+        kept: 0,
+    }
+}
+
+// Rows 5 to 8.
+fn admission(w: &[u64], row: Row) -> u64
+    requires { ⌜ archive-rows (now w) 0 ≡ 0 ⌝ }
+    ensures { λ r. ⌜ r ≡ admission-rows (read (now (w .entry))) (as-row row .trial) 0 ⌝ }
+{
+    if !number_allowed(row.number) {
+        return 5;
+    }
+    if !coordinates_allowed(shape_of(w), row) {
+        return 6;
+    }
+    let place = find(w, row.number);
+    if place < w[0] as usize {
+        return 7;
+    }
+    if w[0] == w[1] {
+        return 8;
+    }
+    0
+}
+
+// The gain of the new trial and, in `kept`, each contribution less its joint count with it, where these stay from 0 to
+// the box (row 13).
+fn lowered(w: &[u64], row: Row, kept: &mut [u64]) -> Moved
+    requires { ⌜ (archive-rows (now w) 0 ≡ 0) × (coordinates-allowed (read (now w) .shape) (as-row row .trial) ≡ true) × (512 ≤ length (now kept)) ⌝ }
+    ensures { λ r. ⌜ Lowered (now (w .entry)) (as-row row .trial) (now (kept .exit)) r ⌝ }
+{
+    let n = w[0] as usize;
+    let mut joints = [0u64; 512];
+    let gain = count_joints(w, n, point_of(row), &mut joints);
+    load(w, n, 4, n, kept);
+    if box_of(shape_of(w)) < w[5] + gain {
+        return Moved {
+            amount: gain,
+            fits: false,
+        };
+    }
+    if some_below(&kept[..n], &joints[..n]) {
+        return Moved {
+            amount: gain,
+            fits: false,
+        };
+    }
+    lower(&mut kept[..n], &joints[..n]);
+    Moved {
+        amount: gain,
+        fits: true,
+    }
+}
+
+// Writes the others' contributions, the new record and the header.
+fn store(w: &mut [u64], row: Row, gain: u64, kept: &[u64])
+    requires { ⌜ Storing (now w) (as-row row .trial) gain (now kept) ⌝ }
+    ensures { λ _. ⌜ now (w .exit) ≡ layout (inserted (read (now (w .entry))) (as-row row .trial)) ++ behind (now (w .entry)) ⌝ }
+{
+    let n = w[0] as usize;
+    let mut new = row;
+    new.kept = gain;
+    let total = w[5] + gain;
+    keep(w, n, kept);
+    enter(w, n, new);
+    w[0] = (n + 1) as u64;
+    w[5] = total;
+}
+
+// Row 13, or the insertion.
+fn put_in(w: &mut [u64], row: Row) -> u64
+    requires { ⌜ (archive-rows (now w) 0 ≡ 0) × (admission-rows (read (now w)) (as-row row .trial) 0 ≡ 0) ⌝ }
+    ensures answer { λ r. ⌜ r ≡ guard (insert-overruns (read (now (w .entry))) (as-row row .trial)) 13 0 ⌝ }
+    ensures words { λ r. ⌜ now (w .exit) ≡ pick (insert-overruns (read (now (w .entry))) (as-row row .trial)) (now (w .entry)) (layout (inserted (read (now (w .entry))) (as-row row .trial)) ++ behind (now (w .entry))) ⌝ }
+{
+    let n = w[0] as usize;
+    let mut kept = [0u64; 512];
+    let moved = lowered(w, row, &mut kept);
+    if !moved.fits {
+        return 13;
+    }
+    store(w, row, moved.amount, &kept[..n]);
+    0
+}
+
+// Insert (number, point). Answers 0 when done.
+pub fn insert(w: &mut [u64], number: u64, p: Point) -> u64
+    ensures { λ r. ⌜ (r ≡ insert (now (w .entry)) (trial-of number (p .at)) .refusal) × (now (w .exit) ≡ insert (now (w .entry)) (trial-of number (p .at)) .words) ⌝ }
+{
+    let refused = refusal(w);
+    if refused != 0 {
+        return refused;
+    }
+    let row = row_of(number, p);
+    let turned = admission(w, row);
+    if turned != 0 {
+        return turned;
+    }
+    put_in(w, row)
+}

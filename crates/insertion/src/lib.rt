@@ -1,0 +1,6 @@
+// Start and insert: the calls by which an archive comes to hold trials.
+mod inserting;
+mod starting;
+
+pub use inserting::insert;
+pub use starting::start;

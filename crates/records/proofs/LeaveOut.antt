@@ -1,0 +1,71 @@
+-- The records but one: how many they are, and the record of a number and the others by the place where it stands.
+use Prim.Native.Nat.{ℕ, zero, suc, _+_, _-_, _≤_, _<_, min}
+use mathlib.Core.Path.{_≡_, refl, ap, ap₂, _∙_}
+use mathlib.Core.List.{List, _∷_, _++_, append-nil, []}
+use native.Mathlib.Omega.{arith}
+use lib.ListN.{length, take, drop, getD, length-append, length-take, length-drop, drop-of-length-le}
+use lib.Seq.{take-all}
+use Rattle.words.specs.Archive.{Row, Trial, trials}
+use Rattle.records.specs.Columns.{leave-out}
+use mathlib.Core.Bool.{Bool, true, false, not}
+use Rattle.slices.specs.Choices.{pick, either}
+use Rattle.calls.specs.Calls.{row-of, others}
+use lib.Dec.{eqb}
+use borrow.Author.Tests.{eq-eqb, ne-eqb, not-true}
+use Rattle.slices.proofs.Choices.{both-true}
+use Rattle.words.specs.Format.{held, distinct}
+use Rattle.words.proofs.Lists.{held-at}
+
+-- The records but one that is none: all.
+pub leave-none : (rows : List Row) (m : ℕ) → length rows ≤ m → leave-out m rows ≡ rows
+unfolding leave-out
+leave-none rows m l =
+    ap₂ (λ a b. a ++ b) (take-all m rows l) (drop-of-length-le rows {i = suc m} (omega arith)) ∙ append-nil rows
+
+pub length-leave-out : (k : ℕ) (rows : List Row) → k < length rows → suc (length (leave-out k rows)) ≡ length rows
+unfolding leave-out
+length-leave-out k rows l =
+    ap suc (length-append (take k rows) (drop (suc k) rows) ∙ ap₂ _+_ (length-take k rows) (length-drop (suc k) rows))
+    ∙ (let e : suc (min k (length rows) + (length rows - suc k)) ≡ length rows = omega arith in e)
+
+-- The others of a number that is not held are all.
+pub others-none : (rows : List Row) (n : ℕ) → held n (trials rows) ≡ false → others n rows ≡ rows
+unfolding others held trials either pick
+others-none [] n h = refl
+others-none (r ∷ rows) n h = go (eqb (r .trial .number) n) h (λ g. others-none rows n g)
+  where
+    go : (b : Bool) → either b (held n (trials rows)) ≡ false → (held n (trials rows) ≡ false → others n rows ≡ rows) → pick b (others n rows) (r ∷ others n rows) ≡ r ∷ rows
+    go true h later = absurd (let z : _≡_ {A = ℕ} 0 1 = cc in omega arith)
+    go false h later = ap (λ l. r ∷ l) (later h)
+
+-- A number that is held is no number that is not.
+apart : (m n : ℕ) (ts : List Trial) → held m ts ≡ false → held n ts ≡ true → m ≡ n → ⊥
+apart m n ts f t e =
+    let same-test : held m ts ≡ held n ts = ap (λ k. held k ts) e in
+    let z : _≡_ {A = ℕ} 0 1 = cc in
+    omega arith
+
+pub row-of-at : (rows : List Row) (k : ℕ) (d : Row) → k < length rows → distinct (trials rows) ≡ true → row-of (getD rows k d .trial .number) rows ≡ getD rows k d
+unfolding row-of distinct trials pick
+row-of-at [] k d l h = absurd (let no′ : ⊥ = omega arith in no′)
+row-of-at (r ∷ rows) zero d l h = rw (eq-eqb (r .trial .number) (r .trial .number) refl)
+row-of-at (r ∷ rows) (suc k) d l h =
+    let parts = both-true (not (held (r .trial .number) (trials rows))) (distinct (trials rows)) h in
+    let there : held (getD rows k d .trial .number) (trials rows) ≡ true = held-at rows k d (omega arith) in
+    let none : held (r .trial .number) (trials rows) ≡ false = not-true (held (r .trial .number) (trials rows)) (parts .0) in
+    rw (ne-eqb (r .trial .number) (getD rows k d .trial .number) (apart (r .trial .number) (getD rows k d .trial .number) (trials rows) none there))
+    (row-of-at rows k d (omega arith) (parts .1))
+
+pub others-at : (rows : List Row) (k : ℕ) (d : Row) → k < length rows → distinct (trials rows) ≡ true → others (getD rows k d .trial .number) rows ≡ leave-out k rows
+unfolding others distinct trials pick leave-out
+others-at [] k d l h = absurd (let no′ : ⊥ = omega arith in no′)
+others-at (r ∷ rows) zero d l h =
+    let parts = both-true (not (held (r .trial .number) (trials rows))) (distinct (trials rows)) h in
+    rw (eq-eqb (r .trial .number) (r .trial .number) refl)
+    (others-none rows (r .trial .number) (not-true (held (r .trial .number) (trials rows)) (parts .0)))
+others-at (r ∷ rows) (suc k) d l h =
+    let parts = both-true (not (held (r .trial .number) (trials rows))) (distinct (trials rows)) h in
+    let there : held (getD rows k d .trial .number) (trials rows) ≡ true = held-at rows k d (omega arith) in
+    let none : held (r .trial .number) (trials rows) ≡ false = not-true (held (r .trial .number) (trials rows)) (parts .0) in
+    rw (ne-eqb (r .trial .number) (getD rows k d .trial .number) (apart (r .trial .number) (getD rows k d .trial .number) (trials rows) none there))
+    (ap (λ l. r ∷ l) (others-at rows k d (omega arith) (parts .1)))

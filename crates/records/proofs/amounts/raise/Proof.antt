@@ -1,0 +1,79 @@
+-- `raise` meets its contract: after i turns the first i values are moved.
+use Prim.Native.Nat.{_-_, _+_}
+use native.Mathlib.Omega.{arith}
+use lib.ListN.{length}
+use Rattle.records.proofs.amounts.Loops.{Moving, moving-none, moving-here, moving-more, moving-end}
+use Rattle.records.proofs.amounts.raise.Statement.{statement}
+use Rattle.records.proofs.amounts.raise.Tie as tie
+
+abbrev Inv-loop : tie.InvT-loop
+Inv-loop values₀ amounts i₀ values i = Moving (λ v m. v + m) values₀ amounts values i
+
+abbrev μ-loop : tie.MeasureT-loop
+μ-loop values₀ amounts i₀ values i = length values₀ - i
+
+loop-holds : tie.Need-loop-holds Inv-loop μ-loop
+loop-holds c = moving-none _ (c .pre .0)
+
+mul-values : tie.Need-mul-values Inv-loop μ-loop
+mul-values c = omega arith
+
+slice-read-values : tie.Need-slice-read-values Inv-loop μ-loop
+slice-read-values c = omega arith
+
+mul-values-2 : tie.Need-mul-values-2 Inv-loop μ-loop
+mul-values-2 c = omega arith
+
+shared-slice-read-values : tie.Need-shared-slice-read-values Inv-loop μ-loop
+shared-slice-read-values c = omega arith
+
+add-values : tie.Need-add-values Inv-loop μ-loop
+add-values c =
+    let at-loop = c .before .before .before in
+    omega (
+      arith,
+      moving-here (at-loop .loop .inv) (omega arith),
+      at-loop .before .pre .1 .0 (at-loop .loop .i),
+      at-loop .before .pre .1 .1 (at-loop .loop .i),
+    )
+
+mul-values-3 : tie.Need-mul-values-3 Inv-loop μ-loop
+mul-values-3 c = omega arith
+
+slice-write-values : tie.Need-slice-write-values Inv-loop μ-loop
+slice-write-values c = omega arith
+
+add-i : tie.Need-add-i Inv-loop μ-loop
+add-i c = omega arith
+
+loop-less : tie.Need-loop-less Inv-loop μ-loop
+loop-less c = omega arith
+
+loop-again : tie.Need-loop-again Inv-loop μ-loop
+loop-again c = moving-more (c .before .before .before .loop .inv) (omega arith)
+
+same-length : tie.Need-same-length Inv-loop μ-loop
+same-length c = c .before .loop .inv .long
+
+returns : tie.Need-returns Inv-loop μ-loop
+returns c = moving-end (c .before .loop .inv) (c .loop-test .left)
+
+pub raise-spec : {M : Type 1} → statement M
+raise-spec =
+    tie.close
+    (tie.spec
+    Inv-loop
+    μ-loop
+    loop-holds
+    mul-values
+    slice-read-values
+    mul-values-2
+    shared-slice-read-values
+    add-values
+    mul-values-3
+    slice-write-values
+    add-i
+    loop-less
+    loop-again
+    same-length
+    returns)

@@ -1,0 +1,29 @@
+-- Contributions and the counted amounts by which they move, pair by pair. Used by the contracts of the inner
+-- functions; no exported contract cites it.
+use Prim.Native.Nat.{ℕ, _≤_}
+use mathlib.Core.Bool.{Bool, false}
+use mathlib.Core.List.{List, _∷_, map, []}
+use lib.ListN.{getD}
+use Rattle.words.specs.Archive.{Trial, Row, Archive}
+use Rattle.slices.specs.Choices.{either}
+use Rattle.calls.specs.Calls.{joint-with}
+
+-- Each value moved by its amount.
+unfoldable pub moved : (ℕ → ℕ → ℕ) → List ℕ → List ℕ → List ℕ
+moved op [] amounts = []
+moved op (v ∷ vs) [] = []
+moved op (v ∷ vs) (m ∷ amounts) = op v m ∷ moved op vs amounts
+
+-- Some value and its amount pass the test.
+unfoldable pub some-pair : (ℕ → ℕ → Bool) → List ℕ → List ℕ → Bool
+some-pair test [] amounts = false
+some-pair test (v ∷ vs) [] = false
+some-pair test (v ∷ vs) (m ∷ amounts) = either (test v m) (some-pair test vs amounts)
+
+-- Every number of the list is at most the limit.
+abbrev pub Each : List ℕ → ℕ → Type 0
+Each l limit = (i : ℕ) → getD l i 0 ≤ limit
+
+-- The joint counts of a trial with these records.
+unfoldable pub shares : Archive → Trial → List Row → List ℕ
+shares a t rows = map (joint-with a t) rows

@@ -1,0 +1,3 @@
+-- For the contracts of the functions over records; no exported contract cites them.
+pub mod Columns
+pub mod Amounts

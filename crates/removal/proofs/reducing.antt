@@ -1,0 +1,4 @@
+-- Laws of reduce and its steps.
+pub mod Rows
+pub mod Dropping
+pub mod Outcomes

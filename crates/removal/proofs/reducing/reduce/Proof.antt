@@ -1,0 +1,62 @@
+-- `reduce` meets its contract: refused, turned down, or all drops made.
+use mathlib.Core.Path.{refl, sym, _∙_}
+use native.Mathlib.Omega.{arith}
+use borrow.Author.Needs.{needs}
+use Rattle.calls.proofs.Known.{known}
+use Rattle.removal.proofs.reducing.Rows.{reducible}
+use Rattle.removal.proofs.reducing.Outcomes.{reduce-refused, reduce-turned, reduce-done}
+use Rattle.removal.proofs.reducing.reduce.Statement.{statement}
+use Rattle.removal.proofs.reducing.reduce.Tie as tie
+
+refusal-requires : tie.Need-refusal-requires
+refusal-requires c κs = search needs
+
+same-length : tie.Need-same-length
+same-length c = search needs
+
+returns : tie.Need-returns
+returns c = reduce-refused (c .before .before .before .before .before .args .w .now) _ _ _ (c .before .refusal .ensures) (c .if1 .taken)
+
+reduce-rows-requires : tie.Need-reduce-rows-requires
+reduce-rows-requires c κs = (sym (c .before .before .refusal .ensures) ∙ c .before .if1 .left)
+
+same-length-2 : tie.Need-same-length-2
+same-length-2 c = search needs
+
+returns-2 : tie.Need-returns-2
+returns-2 c = reduce-turned (c .before .before .before .before .before .before .before .before .args .w .now) _ _ _ (sym (c .before .before .before .before .refusal .ensures) ∙ c .before .before .before .if1 .left) (c .before .reduce-rows .ensures) (c .if2 .taken)
+
+slice-read-drops : tie.Need-slice-read-drops
+slice-read-drops c = omega (arith, known (c .before .before .before .before .before .before .before .before .before .args .w .now) (sym (c .before .before .before .before .before .refusal .ensures) ∙ c .before .before .before .before .if1 .left))
+
+sub-drops : tie.Need-sub-drops
+sub-drops c = reducible (c .before .before .before .before .before .before .before .before .before .args .w .now) _ _ (sym (c .before .before .reduce-rows .ensures) ∙ c .before .if2 .left) .above
+
+drop-all-requires : tie.Need-drop-all-requires
+drop-all-requires c κs = ((sym (c .before .before .before .before .before .before .before .refusal .ensures) ∙ c .before .before .before .before .before .before .if1 .left), reducible (c .before .before .before .before .before .before .before .before .before .before .before .args .w .now) _ _ (sym (c .before .before .before .before .reduce-rows .ensures) ∙ c .before .before .before .if2 .left) .counted, omega (arith, reducible (c .before .before .before .before .before .before .before .before .before .before .before .args .w .now) _ _ (sym (c .before .before .before .before .reduce-rows .ensures) ∙ c .before .before .before .if2 .left) .above), reducible (c .before .before .before .before .before .before .before .before .before .before .before .args .w .now) _ _ (sym (c .before .before .before .before .reduce-rows .ensures) ∙ c .before .before .before .if2 .left) .room)
+
+same-length-3 : tie.Need-same-length-3
+same-length-3 c = search needs
+
+same-length-4 : tie.Need-same-length-4
+same-length-4 c = search needs
+
+returns-3 : tie.Need-returns-3
+returns-3 c = reduce-done (c .before .before .before .before .before .before .before .before .before .before .before .before .before .before .before .before .args .w .now) _ _ _ _ _ (sym (c .before .before .before .before .before .before .before .before .before .before .before .before .refusal .ensures) ∙ c .before .before .before .before .before .before .before .before .before .before .before .if1 .left) (sym (c .before .before .before .before .before .before .before .before .before .reduce-rows .ensures) ∙ c .before .before .before .before .before .before .before .before .if2 .left) refl (c .before .before .before .before .drop-all .ensures)
+
+pub reduce-spec : {M : Type 1} → statement M
+reduce-spec =
+    tie.close
+    (tie.spec
+    refusal-requires
+    same-length
+    returns
+    reduce-rows-requires
+    same-length-2
+    returns-2
+    slice-read-drops
+    sub-drops
+    drop-all-requires
+    same-length-3
+    same-length-4
+    returns-3)

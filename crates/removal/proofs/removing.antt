@@ -1,0 +1,4 @@
+-- Laws of remove and its steps.
+pub mod Raising
+pub mod Storing
+pub mod Outcomes

@@ -1,0 +1,6 @@
+// Remove and reduce: the calls by which trials leave an archive.
+mod reducing;
+mod removing;
+
+pub use reducing::reduce;
+pub use removing::remove;
