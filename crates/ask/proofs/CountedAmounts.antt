@@ -5,6 +5,8 @@ use mathlib.Core.List.{List, _++_}
 use native.Mathlib.Omega.{arith}
 use lib.ListN.{length, take, drop}
 use lib.Seq.{take-at, length-take-le}
+use Rattle.slices.specs.Put.{put}
+use Rattle.slices.proofs.Put.{put-front}
 use Rattle.hypervolume.specs.Counts.{joints}
 use Rattle.words.specs.Archive.{Trial, Archive, point, reference, trials, points}
 use Rattle.words.specs.Layout.{read, word}
@@ -31,12 +33,12 @@ amounts-shares w k b t q before after r s e p c =
     ∙ take-at (shares b t (b .rows)) _ (length (b .rows)) (length-shares b t (b .rows))
 
 -- A loaded column of the same records.
-pub kept-loaded : (w : List ℕ) (k n m : ℕ) (b : Archive) (kept rest : List ℕ) → word w 0 ≡ n → b .rows ≡ leave-out k (read w .rows) → m ≡ length (leave-out k (rows-before w n)) → kept ≡ column 4 (leave-out k (rows-before w n)) ++ rest → take (length (b .rows)) kept ≡ column 4 (b .rows)
+pub kept-loaded : (w : List ℕ) (k n m : ℕ) (b : Archive) (kept old : List ℕ) → word w 0 ≡ n → b .rows ≡ leave-out k (read w .rows) → m ≡ length (leave-out k (rows-before w n)) → kept ≡ put old 0 (column 4 (leave-out k (rows-before w n))) → take (length (b .rows)) kept ≡ column 4 (b .rows)
 unfolding read
-kept-loaded w k n m b kept rest e is size l =
+kept-loaded w k n m b kept old e is size l =
     let same : leave-out k (rows-before w n) ≡ b .rows = ap (λ i. leave-out k (rows-before w i)) (sym e) ∙ sym is in
-    ap (take (length (b .rows))) (l ∙ ap (λ x. column 4 x ++ rest) same)
-    ∙ take-at (column 4 (b .rows)) rest (length (b .rows)) (length-column 4 (b .rows))
+    ap (take (length (b .rows))) (l ∙ ap (λ x. put old 0 (column 4 x)) same ∙ put-front old (column 4 (b .rows)))
+    ∙ take-at (column 4 (b .rows)) _ (length (b .rows)) (length-column 4 (b .rows))
 
 -- Over all records, the archive itself.
 pub all-rows : (w : List ℕ) (n : ℕ) → word w 0 ≡ n → read w .rows ≡ leave-out n (read w .rows)
@@ -47,9 +49,9 @@ pub front-of : (new old : List ℕ) (n k : ℕ) → length new ≡ length (take 
 front-of new old n k e l s = ap (λ i. take i (new ++ drop n old)) s ∙ take-at new (drop n old) n (e ∙ length-take-le n old l)
 
 -- An insertion's columns, by the count in the words.
-pub kept-front : (w kept rest : List ℕ) (m : ℕ) → m ≡ length (leave-out (word w 0) (rows-before w (word w 0))) → kept ≡ column 4 (leave-out (word w 0) (rows-before w (word w 0))) ++ rest → take (word w 0) kept ≡ column 4 (read w .rows)
-kept-front w kept rest m size e =
-    ap (λ i. take i kept) (sym (count-rows w)) ∙ kept-loaded w (word w 0) (word w 0) m (read w) kept rest refl (all-rows w (word w 0) refl) size e
+pub kept-front : (w kept old : List ℕ) (m : ℕ) → m ≡ length (leave-out (word w 0) (rows-before w (word w 0))) → kept ≡ put old 0 (column 4 (leave-out (word w 0) (rows-before w (word w 0)))) → take (word w 0) kept ≡ column 4 (read w .rows)
+kept-front w kept old m size e =
+    ap (λ i. take i kept) (sym (count-rows w)) ∙ kept-loaded w (word w 0) (word w 0) m (read w) kept old refl (all-rows w (word w 0) refl) size e
 
 pub shares-front : (w q before after : List ℕ) (t : Trial) (r : ℕ) → q ≡ point t → CountedJoints w (word w 0) q before after r → take (word w 0) after ≡ shares (read w) t (read w .rows)
 shares-front w q before after t r p c =

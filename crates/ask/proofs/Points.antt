@@ -15,8 +15,10 @@ use Rattle.words.specs.Layout.{record-words, read-row, read, read-shape, word}
 use Rattle.words.specs.Format.{archive-rows, row-allowed, rows-allowed, ordered, distinct, coordinates-allowed}
 use Rattle.words.specs.Places.{rows-before, row-at}
 use Rattle.words.proofs.Passed.{passed, ShapeBounds, RowBounds, row-bounds, shape-bounds, passed-row}
+use Rattle.slices.specs.Put.{put}
+use Rattle.slices.proofs.Put.{put-front}
 use Rattle.calls.specs.Calls.{others}
-use Rattle.ask.specs.RecordCounts.{CountedAll, CountedJoints}
+use Rattle.ask.specs.RecordCounts.{PointsLoaded, CountedAll, CountedJoints}
 use Rattle.records.specs.Columns.{field-of, column, leave-out}
 use Rattle.records.proofs.Columns.{length-column}
 use Rattle.records.proofs.LeaveOut.{leave-none, others-at}
@@ -125,41 +127,43 @@ columns-ready w out k e l room R is =
       rising = column-rising R rising;
     }
 
--- A loaded column: the first m words of the array.
-loaded : (R : List Row) (k m : ℕ) (xs rest : List ℕ) → m ≡ length R → xs ≡ column k R ++ rest → take m xs ≡ column k R
-loaded R k m xs rest e is = ap (take m) is ∙ take-at (column k R) rest m (length-column k R ∙ sym e)
+-- A loaded column: the first m words of the slice.
+loaded : (R : List Row) (k m : ℕ) (xs old : List ℕ) → m ≡ length R → xs ≡ put old 0 (column k R) → take m xs ≡ column k R
+loaded R k m xs old e is =
+    ap (take m) (is ∙ put-front old (column k R)) ∙ take-at (column k R) _ m (length-column k R ∙ sym e)
+
+pub points-loaded : (w : List ℕ) (k m n : ℕ) (xs ys zs xs₀ ys₀ zs₀ : List ℕ) → archive-rows w 0 ≡ 0 → n ≡ word w 0 → let R = leave-out k (rows-before w n) in
+    (m ≡ length R) → m ≤ n → (xs ≡ put xs₀ 0 (column 1 R)) → (ys ≡ put ys₀ 0 (column 2 R)) → (zs ≡ put zs₀ 0 (column 3 R))
+    → PointsLoaded w k m xs ys zs
+points-loaded w k m n xs ys zs xs₀ ys₀ zs₀ p e many few ex ey ez =
+    let same : leave-out k (rows-before w n) ≡ leave-out k (rows-before w (word w 0)) = ap (λ i. leave-out k (rows-before w i)) e in
+    let all : m ≡ length (leave-out k (rows-before w (word w 0))) = many ∙ ap length same in
+    record {
+      many = all;
+      few = omega (arith, known w p);
+      first = loaded _ 1 m xs xs₀ all (ex ∙ ap (λ R. put xs₀ 0 (column 1 R)) same);
+      second = loaded _ 2 m ys ys₀ all (ey ∙ ap (λ R. put ys₀ 0 (column 2 R)) same);
+      third = loaded _ 3 m zs zs₀ all (ez ∙ ap (λ R. put zs₀ 0 (column 3 R)) same);
+    }
 
 -- Three loaded columns, and the reference, as the sweep is given them.
 pub record Columns (w : List ℕ) (k m : ℕ) (xs ys zs r : List ℕ) : Type 0 where
-  pub many : m ≡ length (leave-out k (rows-before w (word w 0)))
-  pub first : take m xs ≡ column 1 (leave-out k (rows-before w (word w 0)))
-  pub second : take m ys ≡ column 2 (leave-out k (rows-before w (word w 0)))
-  pub third : take m zs ≡ column 3 (leave-out k (rows-before w (word w 0)))
+  pub points : PointsLoaded w k m xs ys zs
   pub under : r ≡ reference (read-shape w)
 
-pub columns-loaded : (w : List ℕ) (k m : ℕ) (xs ys zs r restx resty restz : List ℕ) (s : Shape) → let R = leave-out k (rows-before w (word w 0)) in
-    (m ≡ length R) → (xs ≡ column 1 R ++ restx) → (ys ≡ column 2 R ++ resty) → (zs ≡ column 3 R ++ restz)
-    → s ≡ read-shape w → r ≡ reference s → Columns w k m xs ys zs r
-columns-loaded w k m xs ys zs r restx resty restz s em ex ey ez es er =
-    let R = leave-out k (rows-before w (word w 0)) in
-    record {
-      many = em;
-      first = loaded R 1 m xs restx em ex;
-      second = loaded R 2 m ys resty em ey;
-      third = loaded R 3 m zs restz em ez;
-      under = er ∙ ap reference es;
-    }
+pub columns : {w : List ℕ} {k m : ℕ} {xs ys zs r : List ℕ} (s : Shape) → PointsLoaded w k m xs ys zs → s ≡ read-shape w → r ≡ reference s → Columns w k m xs ys zs r
+columns s l es er = record { points = l; under = er ∙ ap reference es }
 
 pub columns-are-ready : {w : List ℕ} {k m : ℕ} {xs ys zs r : List ℕ} (out : List ℕ) → Columns w k m xs ys zs r → archive-rows w 0 ≡ 0 → k ≤ word w 0 → 512 ≤ length out → Ready (take m xs) (take m ys) (take m zs) r out
 columns-are-ready {w} {k} out c e l room =
-    rw (c .first, c .second, c .third, c .under)
+    rw (c .points .first, c .points .second, c .points .third, c .under)
     (columns-ready w out k e l room (leave-out k (rows-before w (word w 0))) refl)
 
 columns-hold : {w : List ℕ} {k m : ℕ} {xs ys zs r : List ℕ} → Columns w k m xs ys zs r → sweep-points.points (take m xs) (take m ys) (take m zs) ≡ points (trials (leave-out k (rows-before w (word w 0))))
-columns-hold {w} {k} c = rw (c .first, c .second, c .third) (columns-points (leave-out k (rows-before w (word w 0))))
+columns-hold {w} {k} c = rw (c .points .first, c .points .second, c .points .third) (columns-points (leave-out k (rows-before w (word w 0))))
 
 columns-many : {w : List ℕ} {k m : ℕ} {xs ys zs r : List ℕ} → Columns w k m xs ys zs r → length (take m xs) ≡ length (leave-out k (rows-before w (word w 0)))
-columns-many {w} {k} c = ap length (c .first) ∙ length-column 1 (leave-out k (rows-before w (word w 0)))
+columns-many {w} {k} c = ap length (c .points .first) ∙ length-column 1 (leave-out k (rows-before w (word w 0)))
 
 pub joints-counted : {w : List ℕ} {k m : ℕ} {xs ys zs r : List ℕ} (p before after : List ℕ) (answer : ℕ) → Columns w k m xs ys zs r
     → answer ≡ gain r (sweep-points.points (take m xs) (take m ys) (take m zs)) p

@@ -13,16 +13,15 @@ ghost use Rattle.words.specs.Archive.{reference, point};
 ghost use Rattle.words.specs.Layout.{word};
 ghost use Rattle.words.specs.Format.{archive-rows, shape-allowed};
 ghost use Rattle.words.specs.Places.{as-row, as-shape};
-ghost use Rattle.ask.specs.RecordCounts.{CountedAll, CountedJoints};
+ghost use Rattle.calls.specs.Lent.{trial-of};
+ghost use Rattle.ask.specs.RecordCounts.{PointsLoaded, CountedAll, CountedJoints};
 
 // The reference as a point.
-pub fn reference_of(s: Shape) -> Point
+fn reference_of(s: Shape) -> Point
     requires { ⌜ shape-allowed (as-shape s) ≡ true ⌝ }
     ensures { λ r. ⌜ r .at ≡ reference (as-shape s) ⌝ }
 {
-    Point {
-        at: [s.rx as u32, s.ry as u32, s.rz as u32],
-    }
+    Point::new(s.rx, s.ry, s.rz)
 }
 
 // A record's point, whose coordinates are at most 1,048,576.
@@ -30,9 +29,32 @@ pub fn point_of(row: Row) -> Point
     requires { ⌜ Small (point (as-row row .trial)) ⌝ }
     ensures { λ r. ⌜ r .at ≡ point (as-row row .trial) ⌝ }
 {
-    Point {
-        at: [row.x as u32, row.y as u32, row.z as u32],
+    Point::new(row.x, row.y, row.z)
+}
+
+// A record of this number and point, with no contribution yet.
+pub fn row_of(number: u64, p: Point) -> Row
+    ensures { λ r. ⌜ as-row r ≡ record { trial = trial-of number (p .at); kept = 0 } ⌝ }
+{
+    Row {
+        number,
+        x: p.at[0] as u64,
+        y: p.at[1] as u64,
+        z: p.at[2] as u64,
+        kept: 0,
     }
+}
+
+// The coordinates of the records but the one at place `skip` (of all where skip is the count), a slice for each axis.
+// Answers how many.
+fn load_points(w: &[u64], skip: usize, xs: &mut [u64], ys: &mut [u64], zs: &mut [u64]) -> usize
+    requires { ⌜ (archive-rows (now w) 0 ≡ 0) × (skip ≤ word (now w) 0) × (512 ≤ length (now xs)) × (512 ≤ length (now ys)) × (512 ≤ length (now zs)) ⌝ }
+    ensures { λ r. ⌜ PointsLoaded (now (w .entry)) skip r (now (xs .exit)) (now (ys .exit)) (now (zs .exit)) ⌝ }
+{
+    let n = w[0] as usize;
+    load(w, n, 1, skip, xs);
+    load(w, n, 2, skip, ys);
+    load(w, n, 3, skip, zs)
 }
 
 // The total of all records, and in `out` the contribution of each.
@@ -40,13 +62,10 @@ pub fn count_all(w: &[u64], out: &mut [u64]) -> u64
     requires { ⌜ (archive-rows (now w) 0 ≡ 0) × (512 ≤ length (now out)) ⌝ }
     ensures { λ r. ⌜ CountedAll (now (w .entry)) (now (out .entry)) (now (out .exit)) r ⌝ }
 {
-    let n = w[0] as usize;
     let mut xs = [0u64; 512];
     let mut ys = [0u64; 512];
     let mut zs = [0u64; 512];
-    let m = load(w, n, 1, n, &mut xs);
-    load(w, n, 2, n, &mut ys);
-    load(w, n, 3, n, &mut zs);
+    let m = load_points(w, w[0] as usize, &mut xs, &mut ys, &mut zs);
     sweep::sweep(&xs[..m], &ys[..m], &zs[..m], reference_of(shape_of(w)), out)
 }
 
@@ -56,13 +75,10 @@ pub fn count_joints(w: &[u64], skip: usize, p: Point, out: &mut [u64]) -> u64
     requires { ⌜ (archive-rows (now w) 0 ≡ 0) × (skip ≤ word (now w) 0) × (512 ≤ length (now out)) × Small (p .at) ⌝ }
     ensures { λ r. ⌜ CountedJoints (now (w .entry)) skip (p .at) (now (out .entry)) (now (out .exit)) r ⌝ }
 {
-    let n = w[0] as usize;
     let mut xs = [0u64; 512];
     let mut ys = [0u64; 512];
     let mut zs = [0u64; 512];
-    let m = load(w, n, 1, skip, &mut xs);
-    load(w, n, 2, skip, &mut ys);
-    load(w, n, 3, skip, &mut zs);
+    let m = load_points(w, skip, &mut xs, &mut ys, &mut zs);
     corners::update(
         &xs[..m],
         &ys[..m],

@@ -3,6 +3,7 @@
 use crate::counts::count_all;
 use crate::counts::count_joints;
 use crate::counts::point_of;
+use crate::counts::row_of;
 use crate::division::millionths;
 use calls::Answer;
 use calls::LeastAnswer;
@@ -10,7 +11,6 @@ use hypervolume::Point;
 use records::least_place;
 use records::load;
 use records::some_differs;
-use words::Row;
 use words::box_of;
 use words::coordinates_allowed;
 use words::find;
@@ -21,7 +21,7 @@ ghost use mathlib.Core.Path.{_≡_};
 ghost use Prim.Native.Nat.{_<_};
 ghost use Rattle.words.specs.Layout.{word, read};
 ghost use Rattle.words.specs.Format.{archive-rows};
-ghost use Rattle.words.specs.Places.{as-row, row-at};
+ghost use Rattle.words.specs.Places.{row-at};
 ghost use Rattle.calls.specs.Calls.{audited, joint-of};
 ghost use Rattle.calls.specs.Lent.{least, share, joint, gain-answer, audit, trial-of};
 
@@ -32,11 +32,7 @@ fn least_in(w: &[u64]) -> LeastAnswer
 {
     let n = w[0] as usize;
     if n == 0 {
-        return LeastAnswer {
-            refusal: 14,
-            number: 0,
-            contribution: 0,
-        };
+        return LeastAnswer::refused(14);
     }
     let row = row_at(w, least_place(w, n));
     LeastAnswer {
@@ -52,11 +48,7 @@ pub fn least(w: &[u64]) -> LeastAnswer
 {
     let refused = refusal(w);
     if refused != 0 {
-        return LeastAnswer {
-            refusal: refused,
-            number: 0,
-            contribution: 0,
-        };
+        return LeastAnswer::refused(refused);
     }
     least_in(w)
 }
@@ -83,28 +75,16 @@ fn joint_in(w: &[u64], first: u64, second: u64) -> Answer
     let n = w[0] as usize;
     let i = find(w, first);
     if n <= i {
-        return Answer {
-            refusal: 9,
-            value: 0,
-        };
+        return Answer::refused(9);
     }
     let k = find(w, second);
     if n <= k {
-        return Answer {
-            refusal: 9,
-            value: 0,
-        };
+        return Answer::refused(9);
     }
     if first == second {
-        return Answer {
-            refusal: 10,
-            value: 0,
-        };
+        return Answer::refused(10);
     }
-    Answer {
-        refusal: 0,
-        value: joint_at(w, i, k),
-    }
+    Answer::done(joint_at(w, i, k))
 }
 
 // Joint (two numbers): cells that both trials dominate and no third does.
@@ -113,25 +93,9 @@ pub fn joint(w: &[u64], first: u64, second: u64) -> Answer
 {
     let refused = refusal(w);
     if refused != 0 {
-        return Answer {
-            refusal: refused,
-            value: 0,
-        };
+        return Answer::refused(refused);
     }
     joint_in(w, first, second)
-}
-
-// A record at this point, without a number.
-fn row_at_point(p: Point) -> Row
-    ensures { λ r. ⌜ as-row r .trial ≡ trial-of 0 (p .at) ⌝ }
-{
-    Row {
-        number: 0,
-        x: p.at[0] as u64,
-        y: p.at[1] as u64,
-        z: p.at[2] as u64,
-        kept: 0,
-    }
 }
 
 // Row 6 where the point is not allowed.
@@ -139,19 +103,13 @@ fn gain_in(w: &[u64], p: Point) -> Answer
     requires { ⌜ archive-rows (now w) 0 ≡ 0 ⌝ }
     ensures { λ r. ⌜ r ≡ gain-answer (now (w .entry)) (trial-of 0 (p .at)) ⌝ }
 {
-    let row = row_at_point(p);
+    let row = row_of(0, p);
     if !coordinates_allowed(shape_of(w), row) {
-        return Answer {
-            refusal: 6,
-            value: 0,
-        };
+        return Answer::refused(6);
     }
     let mut joints = [0u64; 512];
     let n = w[0] as usize;
-    Answer {
-        refusal: 0,
-        value: count_joints(w, n, point_of(row), &mut joints),
-    }
+    Answer::done(count_joints(w, n, point_of(row), &mut joints))
 }
 
 // Gain (point): cells that it dominates and no trial does.
@@ -160,10 +118,7 @@ pub fn gain(w: &[u64], p: Point) -> Answer
 {
     let refused = refusal(w);
     if refused != 0 {
-        return Answer {
-            refusal: refused,
-            value: 0,
-        };
+        return Answer::refused(refused);
     }
     gain_in(w, p)
 }
@@ -172,10 +127,7 @@ fn share_in(w: &[u64]) -> Answer
     requires { ⌜ archive-rows (now w) 0 ≡ 0 ⌝ }
     ensures { λ r. ⌜ r ≡ share (now (w .entry)) ⌝ }
 {
-    Answer {
-        refusal: 0,
-        value: millionths(w[5], box_of(shape_of(w))),
-    }
+    Answer::done(millionths(w[5], box_of(shape_of(w))))
 }
 
 // Share: the kept total in millionths of the box, rounded down.
@@ -184,10 +136,7 @@ pub fn share(w: &[u64]) -> Answer
 {
     let refused = refusal(w);
     if refused != 0 {
-        return Answer {
-            refusal: refused,
-            value: 0,
-        };
+        return Answer::refused(refused);
     }
     share_in(w)
 }
@@ -214,19 +163,10 @@ pub fn audit(w: &[u64]) -> Answer
 {
     let refused = refusal(w);
     if refused != 0 {
-        return Answer {
-            refusal: refused,
-            value: 0,
-        };
+        return Answer::refused(refused);
     }
     if audited(w) {
-        return Answer {
-            refusal: 0,
-            value: 1,
-        };
+        return Answer::done(1);
     }
-    Answer {
-        refusal: 0,
-        value: 0,
-    }
+    Answer::done(0)
 }

@@ -1,4 +1,5 @@
 // What the calls on an archive answer. What each call is stands in specs/; the code that does it is in the crates above.
+ghost use mathlib.Core.Path.{_≡_};
 
 // An answer of one number: the refusal (0 when done), and the value (0 in a refusal).
 #[repr(C)]
@@ -7,10 +8,36 @@ pub struct Answer {
     pub value: u64,
 }
 
+impl Answer {
+    pub fn refused(refusal: u64) -> Answer
+        ensures { λ r. ⌜ r ≡ record { refusal = refusal; value = 0 } ⌝ }
+    {
+        Answer { refusal, value: 0 }
+    }
+
+    pub fn done(value: u64) -> Answer
+        ensures { λ r. ⌜ r ≡ record { refusal = 0; value = value } ⌝ }
+    {
+        Answer { refusal: 0, value }
+    }
+}
+
 // The answer of least.
 #[repr(C)]
 pub struct LeastAnswer {
     pub refusal: u64,
     pub number: u64,
     pub contribution: u64,
+}
+
+impl LeastAnswer {
+    pub fn refused(refusal: u64) -> LeastAnswer
+        ensures { λ r. ⌜ r ≡ record { refusal = refusal; number = 0; contribution = 0 } ⌝ }
+    {
+        LeastAnswer {
+            refusal,
+            number: 0,
+            contribution: 0,
+        }
+    }
 }

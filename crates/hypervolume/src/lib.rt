@@ -1,6 +1,7 @@
 // Points by value, indexed by axis, and their operations: upper corner, dominance and edge product.
 ghost use mathlib.Core.Path.{_≡_};
-ghost use Prim.Native.Nat.{ℕ, _-_, _≤_, _*_, max};
+ghost use mathlib.Core.List.{_∷_, []};
+ghost use Prim.Native.Nat.{ℕ, _-_, _≤_, _<_, _*_, max};
 ghost use lib.ListN.{getD};
 ghost use Rattle.hypervolume.specs.Cells.{dominates, join, edges};
 
@@ -28,6 +29,16 @@ pub fn edge(reference: u32, x: u32) -> u64
 }
 
 impl Point {
+    // The point of three numbers, in the order of the axes.
+    pub fn new(x: u64, y: u64, z: u64) -> Point
+        requires { ⌜ (x < 4294967296) × (y < 4294967296) × (z < 4294967296) ⌝ }
+        ensures { λ r. ⌜ r .at ≡ x ∷ y ∷ z ∷ [] ⌝ }
+    {
+        Point {
+            at: [x as u32, y as u32, z as u32],
+        }
+    }
+
     // The upper corner of two points.
     pub fn join(self, other: Point) -> Point
         ensures { λ r. ⌜ r .at ≡ join (self .at) (other .at) ⌝ }

@@ -15,14 +15,14 @@ use Rattle.records.specs.Columns.{column}
 use Rattle.records.specs.Amounts.{moved, shares}
 
 -- An insertion's amounts: the gain, whether row 13 lets it pass, and then the lowered contributions in front.
-pub record Lowered (w : List ℕ) (t : Trial) (after : List ℕ) (m : Moved) : Type 0 where
+pub record InsertAmounts (w : List ℕ) (t : Trial) (after : List ℕ) (m : Moved) : Type 0 where
   pub gained : m .amount ≡ insert-gain (read w) t
   pub judged : m .fits ≡ not (insert-overruns (read w) t)
   pub moved-down :
       m .fits ≡ true → take (word w 0) after ≡ moved (λ v a. v - a) (column 4 (read w .rows)) (shares (read w) t (read w .rows))
 
 -- What storing an insertion asks.
-pub record Storing (w : List ℕ) (t : Trial) (gain : ℕ) (kept : List ℕ) : Type 0 where
+pub record InsertReady (w : List ℕ) (t : Trial) (gain : ℕ) (kept : List ℕ) : Type 0 where
   pub passes : archive-rows w 0 ≡ 0
   pub free : word w 0 < word w 1
   pub gained : gain ≡ insert-gain (read w) t

@@ -1,13 +1,13 @@
 // Insert: rows 5 to 8 and 13, then the record in its place and every contribution moved by the counted amount.
 use ask::count_joints;
 use ask::point_of;
+use ask::row_of;
 use hypervolume::Point;
 use records::Moved;
 use records::enter;
 use records::keep;
 use records::load;
 use records::lower;
-use records::some_below;
 use words::Row;
 use words::box_of;
 use words::coordinates_allowed;
@@ -26,20 +26,7 @@ ghost use Rattle.words.specs.Format.{guard, archive-rows, coordinates-allowed};
 ghost use Rattle.words.specs.Places.{as-row};
 ghost use Rattle.calls.specs.Calls.{admission-rows, insert-overruns, inserted};
 ghost use Rattle.calls.specs.Lent.{insert, trial-of};
-ghost use Rattle.insertion.specs.Inserting.{Lowered, Storing};
-
-// A record of this number and point, with no contribution yet.
-pub fn row_of(number: u64, p: Point) -> Row
-    ensures { λ r. ⌜ as-row r ≡ record { trial = trial-of number (p .at); kept = 0 } ⌝ }
-{
-    Row {
-        number,
-        x: p.at[0] as u64,
-        y: p.at[1] as u64,
-        z: p.at[2] as u64,
-        kept: 0,
-    }
-}
+ghost use Rattle.insertion.specs.Inserting.{InsertAmounts, InsertReady};
 
 // Rows 5 to 8.
 fn admission(w: &[u64], row: Row) -> u64
@@ -66,7 +53,7 @@ fn admission(w: &[u64], row: Row) -> u64
 // the box (row 13).
 fn lowered(w: &[u64], row: Row, kept: &mut [u64]) -> Moved
     requires { ⌜ (archive-rows (now w) 0 ≡ 0) × (coordinates-allowed (read (now w) .shape) (as-row row .trial) ≡ true) × (512 ≤ length (now kept)) ⌝ }
-    ensures { λ r. ⌜ Lowered (now (w .entry)) (as-row row .trial) (now (kept .exit)) r ⌝ }
+    ensures { λ r. ⌜ InsertAmounts (now (w .entry)) (as-row row .trial) (now (kept .exit)) r ⌝ }
 {
     let n = w[0] as usize;
     let mut joints = [0u64; 512];
@@ -78,22 +65,13 @@ fn lowered(w: &[u64], row: Row, kept: &mut [u64]) -> Moved
             fits: false,
         };
     }
-    if some_below(&kept[..n], &joints[..n]) {
-        return Moved {
-            amount: gain,
-            fits: false,
-        };
-    }
-    lower(&mut kept[..n], &joints[..n]);
-    Moved {
-        amount: gain,
-        fits: true,
-    }
+    let fits = lower(&mut kept[..n], &joints[..n]);
+    Moved { amount: gain, fits }
 }
 
 // Writes the others' contributions, the new record and the header.
 fn store(w: &mut [u64], row: Row, gain: u64, kept: &[u64])
-    requires { ⌜ Storing (now w) (as-row row .trial) gain (now kept) ⌝ }
+    requires { ⌜ InsertReady (now w) (as-row row .trial) gain (now kept) ⌝ }
     ensures { λ _. ⌜ now (w .exit) ≡ layout (inserted (read (now (w .entry))) (as-row row .trial)) ++ behind (now (w .entry)) ⌝ }
 {
     let n = w[0] as usize;

@@ -1,6 +1,6 @@
 // Start: an empty archive in lent words.
 use hypervolume::Point;
-use records::clear;
+use slices::clear;
 use words::Shape;
 use words::put_header;
 use words::shape_allowed;

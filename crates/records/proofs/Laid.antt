@@ -1,73 +1,105 @@
--- Words that are a header, records and what lies behind them, taken apart and put together.
-use Prim.Native.Nat.{ℕ, suc, _+_, _-_, _*_}
-use mathlib.Core.Path.{_≡_, refl, sym, ap, _∙_}
-use mathlib.Core.Bool.{Bool, true, false}
-use mathlib.Core.List.{List, _∷_, _++_, append-assoc, map, []}
+-- Words that are a header, records and what lies behind them: records put into them and read again, and the layout that
+-- an update leaves.
+use Prim.Native.Nat.{ℕ, _+_, _-_, _*_, _≤_}
+use mathlib.Core.Path.{_≡_, refl, sym, ap, ap₂, _∙_}
+use mathlib.Core.List.{List, _++_, append-assoc}
 use native.Mathlib.Omega.{arith}
-use lib.ListN.{length, take, drop, set, replicate, replicate-append-replicate}
+use lib.ListN.{length, take, drop, set, replicate, length-append, length-replicate, replicate-append-replicate}
 use lib.Seq.{take-at, drop-at, drop-drop}
-use Rattle.words.specs.Archive.{Trial, Row, Archive, before}
-use Rattle.slices.specs.Choices.{pick}
-use Rattle.words.specs.Layout.{header, records, layout, read-rows, read, behind}
+use Rattle.slices.specs.Put.{put}
+use Rattle.slices.proofs.Put.{drop-put}
+use Rattle.words.specs.Archive.{Row, Archive}
+use Rattle.words.specs.Layout.{header, records, layout, read-rows, read-shape, read, word, behind}
+use Rattle.words.specs.Places.{rows-before}
 use Rattle.words.proofs.Reading.{length-records, read-records}
 use Rattle.words.proofs.Passed.{Passed}
-use Rattle.calls.specs.Calls.{place}
+use Rattle.calls.proofs.Known.{count-rows}
 
--- A header H, records, and what lies behind them.
-abbrev pub laid : List ℕ → List Row → List ℕ → List ℕ
-laid H rows tail = H ++ (records rows ++ tail)
+-- Records put from word 8 on are read again.
+pub rows-put : (w : List ℕ) (rows : List Row) (rest : List ℕ) (n : ℕ) → 8 + length (records rows ++ rest) ≤ length w → length rows ≡ n
+    → rows-before (put w 8 (records rows ++ rest)) n ≡ rows
+rows-put w rows rest n room e =
+    ap (read-rows n) (drop-put w 8 (records rows ++ rest) room ∙ append-assoc (records rows) rest (drop (8 + length (records rows ++ rest)) w))
+    ∙ ap (λ m. read-rows m (records rows ++ (rest ++ drop (8 + length (records rows ++ rest)) w))) (sym e)
+    ∙ read-records rows (rest ++ drop (8 + length (records rows ++ rest)) w)
 
-pub laid-head : (H : List ℕ) (rows : List Row) (tail : List ℕ) → length H ≡ 8 → take 8 (laid H rows tail) ≡ H
-laid-head H rows tail h = take-at H (records rows ++ tail) 8 h
-
-pub laid-rows : (H : List ℕ) (rows : List Row) (tail : List ℕ) (n : ℕ) → length H ≡ 8 → length rows ≡ n → read-rows n (drop 8 (laid H rows tail)) ≡ rows
-laid-rows H rows tail n h e =
-    ap (read-rows n) (drop-at H (records rows ++ tail) 8 h)
-    ∙ ap (λ m. read-rows m (records rows ++ tail)) (sym e)
-    ∙ read-records rows tail
-
-pub laid-tail : (H : List ℕ) (rows : List Row) (tail : List ℕ) (n : ℕ) → length H ≡ 8 → length rows ≡ n → drop (8 + 5 * n) (laid H rows tail) ≡ tail
-laid-tail H rows tail n h e =
-    let size : length (records rows) ≡ 5 * n = length-records rows ∙ ap (λ m. 5 * m) e in
-    sym (drop-drop (5 * n) 8 (laid H rows tail))
-    ∙ ap (drop (5 * n)) (drop-at H (records rows ++ tail) 8 h)
-    ∙ drop-at (records rows) tail (5 * n) size
-
-pub length-header : (a : Archive) → length (header a) ≡ 8
+length-header : (a : Archive) → length (header a) ≡ 8
 unfolding header
 length-header a = refl
 
 -- A layout, taken apart.
-pub layout-laid : (a : Archive) (b : List ℕ) → layout a ++ b ≡ laid (header a) (a .rows) (replicate (5 * (a .shape .capacity - length (a .rows))) 0 ++ b)
+layout-laid : (a : Archive) (b : List ℕ) → layout a ++ b ≡ header a ++ (records (a .rows) ++ (replicate (5 * (a .shape .capacity - length (a .rows))) 0 ++ b))
 unfolding layout
 layout-laid a b =
     append-assoc (header a) (records (a .rows) ++ replicate (5 * (a .shape .capacity - length (a .rows))) 0) b
     ∙ ap (λ l. header a ++ l) (append-assoc (records (a .rows)) (replicate (5 * (a .shape .capacity - length (a .rows))) 0) b)
 
 -- The header with another count and another total.
-pub header-set : (a c : Archive) (n s : ℕ) (tail : List ℕ) → c .shape ≡ a .shape → length (c .rows) ≡ n → c .sum ≡ s → set (set (header a ++ tail) 0 n) 5 s ≡ header c ++ tail
+header-set : (a c : Archive) (n s : ℕ) (tail : List ℕ) → c .shape ≡ a .shape → length (c .rows) ≡ n → c .sum ≡ s → set (set (header a ++ tail) 0 n) 5 s ≡ header c ++ tail
 unfolding header
 header-set a c n s tail e f g = rw (e, f, g)
 
--- Five zeros more or less behind the records.
-pub zeros-more : (m : ℕ) (b : List ℕ) → replicate 5 0 ++ (replicate (5 * m) 0 ++ b) ≡ replicate (5 * suc m) 0 ++ b
-zeros-more m b =
-    sym (append-assoc (replicate 5 0) (replicate (5 * m) 0) b)
-    ∙ ap (λ l. l ++ b) (replicate-append-replicate 5 (5 * m) 0 ∙ ap (λ k. replicate k 0) (let e : 5 + 5 * m ≡ 5 * suc m = omega arith in e))
+-- Zeros, part of them dropped or put before others.
+zeros-dropped : (m n k : ℕ) (b : List ℕ) → m + n ≡ k → drop m (replicate k 0 ++ b) ≡ replicate n 0 ++ b
+zeros-dropped m n k b e =
+    ap (λ i. drop m (replicate i 0 ++ b)) (sym e)
+    ∙ ap (λ l. drop m (l ++ b)) (sym (replicate-append-replicate m n 0))
+    ∙ ap (drop m) (append-assoc (replicate m 0) (replicate n 0) b)
+    ∙ drop-at (replicate m 0) (replicate n 0 ++ b) m (length-replicate {A = ℕ} m 0)
 
-pub length-place : {A : Type 0} (trial : A → Trial) (x : A) (l : List A) → length (place trial x l) ≡ suc (length l)
-unfolding place pick
-length-place trial x [] = refl
-length-place trial x (y ∷ l) = go (before (trial x) (trial y)) (length-place trial x l)
-  where
-    go : (t : Bool) → length (place trial x l) ≡ suc (length l) → length (pick t (x ∷ y ∷ l) (y ∷ place trial x l)) ≡ suc (suc (length l))
-    go true e = refl
-    go false e = ap suc e
+zeros-more : (m n k : ℕ) (b : List ℕ) → m + n ≡ k → replicate m 0 ++ (replicate n 0 ++ b) ≡ replicate k 0 ++ b
+zeros-more m n k b e =
+    sym (append-assoc (replicate m 0) (replicate n 0) b)
+    ∙ ap (λ l. l ++ b) (replicate-append-replicate m n 0 ∙ ap (λ i. replicate i 0) e)
 
-pub length-map : {A B : Type 0} (f : A → B) (l : List A) → length (map f l) ≡ length l
-length-map f [] = refl
-length-map f (x ∷ l) = ap suc (length-map f l)
+-- Words that pass, before the records and behind them.
+module _ (w : List ℕ) (h : Passed w) where
+  start : w ≡ header (read w) ++ (records (read w .rows) ++ (replicate (5 * (word w 1 - word w 0)) 0 ++ behind w))
+  unfolding read read-shape
+  start =
+      h .laid
+      ∙ layout-laid (read w) (behind w)
+      ∙ ap (λ n. header (read w) ++ (records (read w .rows) ++ (replicate (5 * (word w 1 - n)) 0 ++ behind w))) (count-rows w)
 
--- Words that pass, taken apart.
-pub passed-laid : (w : List ℕ) → Passed w → w ≡ laid (header (read w)) (read w .rows) (replicate (5 * (read w .shape .capacity - length (read w .rows))) 0 ++ behind w)
-passed-laid w h = h .laid ∙ layout-laid (read w) (behind w)
+  head : take 8 w ≡ header (read w)
+  head =
+      ap (take 8) start
+      ∙ take-at (header (read w)) (records (read w .rows) ++ (replicate (5 * (word w 1 - word w 0)) 0 ++ behind w)) 8 (length-header (read w))
+
+  back : (n : ℕ) → word w 0 ≤ n → n ≤ word w 1 → drop (8 + 5 * n) w ≡ replicate (5 * (word w 1 - n)) 0 ++ behind w
+  back n l m =
+      let size : length (records (read w .rows)) ≡ 5 * word w 0 = length-records (read w .rows) ∙ ap (λ k. 5 * k) (count-rows w) in
+      let zeros = replicate (5 * (word w 1 - word w 0)) 0 ++ behind w in
+      ap (λ k. drop k w) (let s : 8 + 5 * n ≡ 8 + (5 * word w 0 + 5 * (n - word w 0)) = omega arith in s)
+      ∙ sym (drop-drop (5 * word w 0 + 5 * (n - word w 0)) 8 w)
+      ∙ ap (drop (5 * word w 0 + 5 * (n - word w 0))) (ap (drop 8) start ∙ drop-at (header (read w)) (records (read w .rows) ++ zeros) 8 (length-header (read w)))
+      ∙ sym (drop-drop (5 * (n - word w 0)) (5 * word w 0) (records (read w .rows) ++ zeros))
+      ∙ ap (drop (5 * (n - word w 0))) (drop-at (records (read w .rows)) zeros (5 * word w 0) size)
+      ∙ zeros-dropped (5 * (n - word w 0)) (5 * (word w 1 - n)) (5 * (word w 1 - word w 0)) (behind w) (omega arith)
+
+  -- What an update leaves: the records of the new archive, with as many zeros behind them as cover the old ones, and then the
+  -- count and the total.
+  pub stored : (w₂ w₃ : List ℕ) (c : Archive) (m j : ℕ) → c .shape ≡ read w .shape → length (c .rows) ≡ m → word w 0 ≤ m + j → m + j ≤ word w 1
+      → w₂ ≡ put w 8 (records (c .rows) ++ replicate (5 * j) 0)
+      → w₃ ≡ set (set w₂ 0 m) 5 (c .sum)
+      → w₃ ≡ layout c ++ behind w
+  unfolding put read read-shape
+  stored w₂ w₃ c m j shaped many covers fits e₂ e₃ =
+      let long : length (records (c .rows) ++ replicate (5 * j) 0) ≡ 5 * (m + j) =
+      length-append (records (c .rows)) (replicate (5 * j) 0)
+      ∙ ap₂ _+_ (length-records (c .rows) ∙ ap (λ k. 5 * k) many) (length-replicate {A = ℕ} (5 * j) 0)
+      ∙ (let s : 5 * m + 5 * j ≡ 5 * (m + j) = omega arith in s) in
+      let rest : 5 * (word w 1 - m) ≡ 5 * (c .shape .capacity - length (c .rows)) = ap₂ (λ a b. 5 * (a - b)) (sym (ap (λ s. s .capacity) shaped)) (sym many) in
+      let tail : replicate (5 * j) 0 ++ drop (8 + length (records (c .rows) ++ replicate (5 * j) 0)) w ≡ replicate (5 * (c .shape .capacity - length (c .rows))) 0 ++ behind w =
+      ap (λ k. replicate (5 * j) 0 ++ drop (8 + k) w) long
+      ∙ ap (λ l. replicate (5 * j) 0 ++ l) (back (m + j) covers fits)
+      ∙ zeros-more (5 * j) (5 * (word w 1 - (m + j))) (5 * (word w 1 - m)) (behind w) (omega arith)
+      ∙ ap (λ k. replicate k 0 ++ behind w) rest in
+      let second : w₂ ≡ header (read w) ++ (records (c .rows) ++ (replicate (5 * (c .shape .capacity - length (c .rows))) 0 ++ behind w)) =
+      e₂
+      ∙ ap₂ (λ a b. a ++ b) head (append-assoc (records (c .rows)) (replicate (5 * j) 0) _)
+      ∙ ap (λ l. header (read w) ++ (records (c .rows) ++ l)) tail in
+      e₃
+      ∙ ap (λ x. set (set x 0 m) 5 (c .sum)) second
+      ∙ header-set (read w) c m (c .sum) _ shaped many refl
+      ∙ sym (layout-laid c (behind w))

@@ -1,5 +1,4 @@
 -- Laws of the records in the words, for all functions over them.
-pub mod Writing
 pub mod Columns
 pub mod MovedAmounts
 pub mod LeaveOut

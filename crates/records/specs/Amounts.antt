@@ -1,7 +1,8 @@
 -- Contributions and the counted amounts by which they move, pair by pair. Used by the contracts of the inner
 -- functions; no exported contract cites it.
 use Prim.Native.Nat.{ℕ, _≤_}
-use mathlib.Core.Bool.{Bool, false}
+use mathlib.Core.Bool.{Bool, true, false, not}
+use mathlib.Core.Path.{_≡_}
 use mathlib.Core.List.{List, _∷_, map, []}
 use lib.ListN.{getD}
 use Rattle.words.specs.Archive.{Trial, Row, Archive}
@@ -19,6 +20,11 @@ unfoldable pub some-pair : (ℕ → ℕ → Bool) → List ℕ → List ℕ → 
 some-pair test [] amounts = false
 some-pair test (v ∷ vs) [] = false
 some-pair test (v ∷ vs) (m ∷ amounts) = either (test v m) (some-pair test vs amounts)
+
+-- Values moved by their amounts unless a pair passes the test: whether none does, and what they are then.
+pub record MovedUnless (test : ℕ → ℕ → Bool) (op : ℕ → ℕ → ℕ) (values amounts after : List ℕ) (done : Bool) : Type 0 where
+  pub judged : done ≡ not (some-pair test values amounts)
+  pub is-moved : done ≡ true → after ≡ moved op values amounts
 
 -- Every number of the list is at most the limit.
 abbrev pub Each : List ℕ → ℕ → Type 0

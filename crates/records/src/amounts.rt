@@ -1,25 +1,10 @@
-// Contributions moved by counted amounts, and whether they stay from 0 to the box (row 13).
+// Contributions moved by counted amounts, unless one would fall below 0 or exceed the box (row 13).
 ghost use mathlib.Core.Path.{_≡_};
-ghost use mathlib.Core.Bool.{false, not};
+ghost use mathlib.Core.Bool.{not};
 ghost use Prim.Native.Nat.{_+_, _-_, _≤_};
 ghost use lib.Dec.{ltb, eqb};
 ghost use lib.ListN.{length};
-ghost use Rattle.records.specs.Amounts.{moved, some-pair, Each};
-
-// Whether some value is below its amount.
-pub fn some_below(values: &[u64], amounts: &[u64]) -> bool
-    requires { ⌜ length (now amounts) ≡ length (now values) ⌝ }
-    ensures { λ r. ⌜ r ≡ some-pair (λ v m. ltb v m) (now (values .entry)) (now (amounts .entry)) ⌝ }
-{
-    let mut i = 0;
-    while i < values.len() {
-        if values[i] < amounts[i] {
-            return true;
-        }
-        i += 1;
-    }
-    false
-}
+ghost use Rattle.records.specs.Amounts.{some-pair, Each, MovedUnless};
 
 // Whether some value differs from its amount.
 pub fn some_differs(values: &[u64], amounts: &[u64]) -> bool
@@ -36,45 +21,37 @@ pub fn some_differs(values: &[u64], amounts: &[u64]) -> bool
     false
 }
 
-// Whether some value with its amount exceeds the limit. Neither alone does.
-pub fn some_above(values: &[u64], amounts: &[u64], limit: u64) -> bool
+// Lowers each value by its amount, and answers true; false where some value is below its amount.
+pub fn lower(values: &mut [u64], amounts: &[u64]) -> bool
+    requires { ⌜ length (now amounts) ≡ length (now values) ⌝ }
+    ensures { λ r. ⌜ MovedUnless (λ v m. ltb v m) (λ v m. v - m) (now (values .entry)) (now (amounts .entry)) (now (values .exit)) r ⌝ }
+{
+    let mut i = 0;
+    while i < values.len() {
+        if values[i] < amounts[i] {
+            return false;
+        }
+        values[i] = values[i] - amounts[i];
+        i += 1;
+    }
+    true
+}
+
+// Raises each value by its amount, and answers true; false where some value would exceed the limit. None exceeds it before.
+pub fn raise(values: &mut [u64], amounts: &[u64], limit: u64) -> bool
     requires { ⌜ (length (now amounts) ≡ length (now values)) × (limit ≤ 1152921504606846976) ⌝ }
     requires { ⌜ Each (now values) limit × Each (now amounts) limit ⌝ }
-    ensures { λ r. ⌜ r ≡ some-pair (λ v m. ltb limit (v + m)) (now (values .entry)) (now (amounts .entry)) ⌝ }
+    ensures { λ r. ⌜ MovedUnless (λ v m. ltb limit (v + m)) (λ v m. v + m) (now (values .entry)) (now (amounts .entry)) (now (values .exit)) r ⌝ }
 {
     let mut i = 0;
     while i < values.len() {
         if limit < values[i] + amounts[i] {
-            return true;
+            return false;
         }
-        i += 1;
-    }
-    false
-}
-
-// Lowers each value by its amount.
-pub fn lower(values: &mut [u64], amounts: &[u64])
-    requires { ⌜ (length (now amounts) ≡ length (now values)) × (some-pair (λ v m. ltb v m) (now values) (now amounts) ≡ false) ⌝ }
-    ensures { λ _. ⌜ now (values .exit) ≡ moved (λ v m. v - m) (now (values .entry)) (now (amounts .entry)) ⌝ }
-{
-    let mut i = 0;
-    while i < values.len() {
-        values[i] = values[i] - amounts[i];
-        i += 1;
-    }
-}
-
-// Raises each value by its amount.
-pub fn raise(values: &mut [u64], amounts: &[u64])
-    requires { ⌜ length (now amounts) ≡ length (now values) ⌝ }
-    requires { ⌜ Each (now values) 1152921504606846976 × Each (now amounts) 1152921504606846976 ⌝ }
-    ensures { λ _. ⌜ now (values .exit) ≡ moved (λ v m. v + m) (now (values .entry)) (now (amounts .entry)) ⌝ }
-{
-    let mut i = 0;
-    while i < values.len() {
         values[i] = values[i] + amounts[i];
         i += 1;
     }
+    true
 }
 
 // What an update came to: the new or removed trial's counted amount, and whether every number stays from 0 to the box.

@@ -1,15 +1,16 @@
 // One field of consecutive records, copied between the words and a plain slice.
 ghost use mathlib.Core.Path.{_≡_};
-ghost use mathlib.Core.List.{_++_};
-ghost use Prim.Native.Nat.{_+_, _*_, _≤_};
-ghost use lib.ListN.{length, take, drop};
-ghost use Rattle.records.specs.Columns.{fifths, rekept};
-ghost use Rattle.words.specs.Layout.{records, read-rows};
+ghost use Prim.Native.Nat.{_+_, _*_, _≤_, _<_};
+ghost use lib.ListN.{length, drop};
+ghost use Rattle.slices.specs.Put.{put};
+ghost use Rattle.words.specs.Layout.{records};
+ghost use Rattle.words.specs.Places.{rows-before};
+ghost use Rattle.records.specs.Columns.{fifths, column, leave-out, rekept};
 
 // Copies n words, every fifth from `first` on, to `at` and behind it.
-pub fn gather(w: &[u64], first: usize, n: usize, to: &mut [u64], at: usize)
+fn gather(w: &[u64], first: usize, n: usize, to: &mut [u64], at: usize)
     requires { ⌜ (first + 5 * n ≤ length (now w) + 4) × (at + n ≤ length (now to)) ⌝ }
-    ensures { λ _. ⌜ now (to .exit) ≡ take at (now (to .entry)) ++ (fifths n (drop first (now (w .entry))) ++ drop (at + n) (now (to .entry))) ⌝ }
+    ensures { λ _. ⌜ now (to .exit) ≡ put (now (to .entry)) at (fifths n (drop first (now (w .entry)))) ⌝ }
 {
     let mut i = 0;
     while i < n {
@@ -18,10 +19,23 @@ pub fn gather(w: &[u64], first: usize, n: usize, to: &mut [u64], at: usize)
     }
 }
 
+// A field of each of the n records but the one at place `skip`; none is left out where skip is n. Answers how many.
+pub fn load(w: &[u64], n: usize, field: usize, skip: usize, to: &mut [u64]) -> usize
+    requires { ⌜ (8 + 5 * n ≤ length (now w)) × (field < 5) × (skip ≤ n) × (n ≤ length (now to)) ⌝ }
+    ensures { λ r. ⌜ (r ≡ length (leave-out skip (rows-before (now (w .entry)) n))) × (now (to .exit) ≡ put (now (to .entry)) 0 (column field (leave-out skip (rows-before (now (w .entry)) n)))) × (r ≤ n) ⌝ }
+{
+    gather(w, 8 + field, skip, to, 0);
+    if skip < n {
+        gather(w, 13 + 5 * skip + field, n - 1 - skip, to, skip);
+        return n - 1;
+    }
+    n
+}
+
 // Stores these contributions in the first n records.
 pub fn keep(w: &mut [u64], n: usize, values: &[u64])
     requires { ⌜ (8 + 5 * n ≤ length (now w)) × (n ≤ length (now values)) ⌝ }
-    ensures { λ _. ⌜ now (w .exit) ≡ take 8 (now (w .entry)) ++ (records (rekept (read-rows n (drop 8 (now (w .entry)))) (now (values .entry))) ++ drop (8 + 5 * n) (now (w .entry))) ⌝ }
+    ensures { λ _. ⌜ now (w .exit) ≡ put (now (w .entry)) 8 (records (rekept (rows-before (now (w .entry)) n) (now (values .entry)))) ⌝ }
 {
     let mut i = 0;
     while i < n {

@@ -19,14 +19,14 @@ number-at w k = row-at w k .trial .number
 
 -- A removal's amounts, of the record at place k: the loss, whether row 13 lets it pass, and then the others' raised
 -- contributions in front.
-pub record Raised (w : List ℕ) (k : ℕ) (after : List ℕ) (m : Moved) : Type 0 where
+pub record RemoveAmounts (w : List ℕ) (k : ℕ) (after : List ℕ) (m : Moved) : Type 0 where
   pub lost : m .amount ≡ removal-loss (read w) (number-at w k)
   pub judged : m .fits ≡ not (remove-overruns (read w) (number-at w k))
   pub moved-up :
       m .fits ≡ true → take (word w 0 - 1) after ≡ moved (λ v a. v + a) (column 4 (leave-out k (read w .rows))) (shares (without (read w) (number-at w k)) (row-at w k .trial) (leave-out k (read w .rows)))
 
 -- What storing a removal asks.
-pub record Striking (w : List ℕ) (k loss : ℕ) (kept : List ℕ) : Type 0 where
+pub record RemoveReady (w : List ℕ) (k loss : ℕ) (kept : List ℕ) : Type 0 where
   pub passes : archive-rows w 0 ≡ 0
   pub inside : k < word w 0
   pub lost : loss ≡ removal-loss (read w) (number-at w k)

@@ -3,11 +3,13 @@ use crate::removing::take_out;
 use ask::audited;
 use calls::Answer;
 use records::least_place;
+use slices::copy;
 use words::refusal;
 ghost use mathlib.Core.Path.{_≡_};
 ghost use mathlib.Core.List.{_++_};
 ghost use Prim.Native.Nat.{_+_, _*_, _≤_, _<_};
-ghost use lib.ListN.{length, take, drop};
+ghost use lib.ListN.{length};
+ghost use Rattle.slices.specs.Put.{put};
 ghost use Rattle.words.specs.Layout.{word, layout, read, behind};
 ghost use Rattle.words.specs.Format.{archive-rows};
 ghost use Rattle.calls.specs.Calls.{reduce-rows, dropped, note, after-drops, notes};
@@ -35,19 +37,19 @@ fn reduce_rows(w: &[u64], k: u64, log: usize) -> u64
 // One drop: notes the least contributor at `at`, and takes it out.
 fn drop_least(w: &mut [u64], log: &mut [u64], at: usize)
     requires { ⌜ (archive-rows (now w) 0 ≡ 0) × IsCounted (read (now w)) × (0 < word (now w) 0) × (at + 2 ≤ length (now log)) ⌝ }
-    ensures { λ _. ⌜ (now (w .exit) ≡ layout (dropped (read (now (w .entry)))) ++ behind (now (w .entry))) × (now (log .exit) ≡ take at (now (log .entry)) ++ (note (read (now (w .entry))) ++ drop (at + 2) (now (log .entry)))) ⌝ }
+    ensures { λ _. ⌜ (now (w .exit) ≡ layout (dropped (read (now (w .entry)))) ++ behind (now (w .entry))) × (now (log .exit) ≡ put (now (log .entry)) at (note (read (now (w .entry))))) ⌝ }
 {
     let n = w[0] as usize;
     let place = least_place(w, n);
-    log[at] = w[8 + 5 * place];
-    log[at + 1] = w[12 + 5 * place];
+    let note = [w[8 + 5 * place], w[12 + 5 * place]];
+    copy(&note, log, at);
     take_out(w, place);
 }
 
 // So many drops, noted one behind the other.
 fn drop_all(w: &mut [u64], drops: usize, log: &mut [u64])
     requires { ⌜ (archive-rows (now w) 0 ≡ 0) × IsCounted (read (now w)) × (drops ≤ word (now w) 0) × (2 * drops ≤ length (now log)) ⌝ }
-    ensures { λ _. ⌜ (now (w .exit) ≡ layout (after-drops drops (read (now (w .entry)))) ++ behind (now (w .entry))) × (now (log .exit) ≡ notes drops (read (now (w .entry))) ++ drop (2 * drops) (now (log .entry))) ⌝ }
+    ensures { λ _. ⌜ (now (w .exit) ≡ layout (after-drops drops (read (now (w .entry)))) ++ behind (now (w .entry))) × (now (log .exit) ≡ put (now (log .entry)) 0 (notes drops (read (now (w .entry))))) ⌝ }
 {
     let mut i = 0;
     while i < drops {
@@ -62,22 +64,13 @@ pub fn reduce(w: &mut [u64], k: u64, log: &mut [u64]) -> Answer
 {
     let refused = refusal(w);
     if refused != 0 {
-        return Answer {
-            refusal: refused,
-            value: 0,
-        };
+        return Answer::refused(refused);
     }
     let turned = reduce_rows(w, k, log.len());
     if turned != 0 {
-        return Answer {
-            refusal: turned,
-            value: 0,
-        };
+        return Answer::refused(turned);
     }
     let drops = w[0] - k;
     drop_all(w, drops as usize, log);
-    Answer {
-        refusal: 0,
-        value: drops,
-    }
+    Answer::done(drops)
 }

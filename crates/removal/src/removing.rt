@@ -5,7 +5,6 @@ use records::Moved;
 use records::keep;
 use records::load;
 use records::raise;
-use records::some_above;
 use records::strike;
 use words::Row;
 use words::box_of;
@@ -23,13 +22,13 @@ ghost use Rattle.words.specs.Format.{guard, archive-rows};
 ghost use Rattle.words.specs.Places.{as-row, row-at};
 ghost use Rattle.calls.specs.Calls.{remove-overruns, removed};
 ghost use Rattle.calls.specs.Lent.{remove};
-ghost use Rattle.removal.specs.Removing.{number-at, Raised, Striking};
+ghost use Rattle.removal.specs.Removing.{number-at, RemoveAmounts, RemoveReady};
 
 // The loss of the trial at place k and, in `kept`, each other contribution with its joint count, where these stay from 0
 // to the box (row 13).
 fn raised(w: &[u64], k: usize, row: Row, kept: &mut [u64]) -> Moved
     requires { ⌜ (archive-rows (now w) 0 ≡ 0) × (k < word (now w) 0) × (as-row row ≡ row-at (now w) k) × (512 ≤ length (now kept)) ⌝ }
-    ensures { λ r. ⌜ Raised (now (w .entry)) k (now (kept .exit)) r ⌝ }
+    ensures { λ r. ⌜ RemoveAmounts (now (w .entry)) k (now (kept .exit)) r ⌝ }
 {
     let n = w[0] as usize;
     let mut joints = [0u64; 512];
@@ -42,22 +41,13 @@ fn raised(w: &[u64], k: usize, row: Row, kept: &mut [u64]) -> Moved
             fits: false,
         };
     }
-    if some_above(&kept[..m], &joints[..m], box_of(shape_of(w))) {
-        return Moved {
-            amount: loss,
-            fits: false,
-        };
-    }
-    raise(&mut kept[..m], &joints[..m]);
-    Moved {
-        amount: loss,
-        fits: true,
-    }
+    let fits = raise(&mut kept[..m], &joints[..m], box_of(shape_of(w)));
+    Moved { amount: loss, fits }
 }
 
 // Strikes out the record at place k, and writes the others' contributions and the header.
 fn store(w: &mut [u64], k: usize, loss: u64, kept: &[u64])
-    requires { ⌜ Striking (now w) k loss (now kept) ⌝ }
+    requires { ⌜ RemoveReady (now w) k loss (now kept) ⌝ }
     ensures { λ _. ⌜ now (w .exit) ≡ layout (removed (read (now (w .entry))) (number-at (now (w .entry)) k)) ++ behind (now (w .entry)) ⌝ }
 {
     let n = w[0] as usize;

@@ -2,7 +2,7 @@
 use Prim.Native.Nat.{ℕ, suc, _+_, _-_, _≤_, _<_}
 use mathlib.Core.Path.{_≡_, sym, ap, ap₂, _∙_}
 use mathlib.Core.List.{List, _∷_, _++_, append-assoc, []}
-use native.Mathlib.Nat.{add-zero}
+use native.Mathlib.Nat.{add-zero, zero-add}
 use native.Mathlib.Numerals.{add-one}
 use native.Mathlib.Omega.{arith}
 use lib.ListN.{length, take, drop, set, getD, length-append, length-take, length-drop, take-append-drop, List·getD-append}
@@ -148,3 +148,38 @@ put-over l at new more room covers = go (take-put l at new room) behind
     go : take at (put l at new) ≡ take at l → drop (at + length more) (put l at new) ≡ drop (at + length more) l
         → put (put l at new) at more ≡ put l at more
     go e f = unfold put in (ap₂ (λ a b. a ++ (more ++ b)) e f)
+
+-- A part put over the front of another that is as long.
+pub put-front-over : (l : List ℕ) (at : ℕ) (new rest more : List ℕ) → at + length (new ++ rest) ≤ length l → length more ≡ length new
+    → put (put l at (new ++ rest)) at more ≡ put l at (more ++ rest)
+put-front-over l at new rest more room same = go (take-put l at (new ++ rest) room) behind
+  where
+    all : at + length (new ++ rest) ≡ at + length (more ++ rest)
+    all = omega (arith, length-append new rest, length-append more rest)
+
+    behind : drop (at + length more) (put l at (new ++ rest)) ≡ rest ++ drop (at + length (more ++ rest)) l
+    behind =
+        sym (drop-drop (length more) at (put l at (new ++ rest)))
+        ∙ ap (drop (length more)) (drop-put l at (new ++ rest) room ∙ append-assoc new rest (drop (at + length (new ++ rest)) l))
+        ∙ drop-at new (rest ++ drop (at + length (new ++ rest)) l) (length more) (sym same)
+        ∙ ap (λ k. rest ++ drop k l) all
+
+    go : take at (put l at (new ++ rest)) ≡ take at l
+        → drop (at + length more) (put l at (new ++ rest)) ≡ rest ++ drop (at + length (more ++ rest)) l
+        → put (put l at (new ++ rest)) at more ≡ put l at (more ++ rest)
+    go e f = unfold put in (ap₂ (λ a b. a ++ (more ++ b)) e f ∙ rw append-assoc)
+
+-- What stands there already changes nothing.
+pub put-same : (l : List ℕ) (at n : ℕ) → at + n ≤ length l → put l at (take n (drop at l)) ≡ l
+unfolding put
+put-same l at n room =
+    let long : length (take n (drop at l)) ≡ n = length-take-le n (drop at l) (omega (arith, length-drop at l)) in
+    ap (λ k. take at l ++ (take n (drop at l) ++ drop (at + k) l)) long
+    ∙ ap (λ m. take at l ++ (take n (drop at l) ++ m)) (sym (drop-drop n at l))
+    ∙ ap (λ m. take at l ++ m) (take-append-drop n (drop at l))
+    ∙ take-append-drop at l
+
+-- A part at the front.
+pub put-front : (l new : List ℕ) → put l 0 new ≡ new ++ drop (length new) l
+unfolding put
+put-front l new = ap (λ k. new ++ drop k l) (zero-add (length new))

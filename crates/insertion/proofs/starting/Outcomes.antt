@@ -3,12 +3,14 @@ use Prim.Native.Nat.{ℕ, _+_, _*_, _≤_, _<_}
 use mathlib.Core.Path.{_≡_, sym, ap, ap₂, _∙_}
 use mathlib.Core.Bool.{Bool, true, false, not}
 use mathlib.Core.List.{List, _++_, append-assoc, []}
-use native.Mathlib.Nat.{zero-add, sub-zero}
+use native.Mathlib.Nat.{sub-zero}
 use native.Mathlib.Omega.{arith}
 use lib.Dec.{ltb}
 use borrow.Author.Tests.{lt-ltb, le-ltb}
-use lib.ListN.{length, take, drop, replicate, length-replicate, replicate-append-replicate}
+use lib.ListN.{length, drop, replicate, length-replicate, replicate-append-replicate}
 use lib.Seq.{drop-at}
+use Rattle.slices.specs.Put.{put}
+use Rattle.slices.proofs.Put.{put-front}
 use Rattle.words.specs.Archive.{Shape}
 use Rattle.words.specs.Layout.{extent, layout, header, records}
 use Rattle.words.specs.Format.{shape-allowed}
@@ -33,7 +35,7 @@ start-short w s t end e f g l =
     turned-down (start w s) w [] 1 (leaves-refused w [] _ 1 _ _ _ row (λ z. omega arith))
 
 pub start-done : (w w₁ w₂ : List ℕ) (s : Shape) (t : Bool) (end : ℕ) → t ≡ shape-allowed s → t ≡ true → end ≡ 8 + 5 * s .capacity → end ≤ length w
-    → w₁ ≡ take 0 w ++ (replicate end 0 ++ drop (0 + end) w)
+    → w₁ ≡ put w 0 (replicate end 0)
     → w₂ ≡ header-words 0 s 0 ++ drop 8 w₁
     → (_≡_ {A = ℕ} 0 (start w s .refusal)) × (w₂ ≡ start w s .words)
 unfolding start start-rows not extent layout header records empty
@@ -44,7 +46,8 @@ start-done w w₁ w₂ s t end e f g l e₁ e₂ =
     let rest : List ℕ = drop (8 + 5 * s .capacity) w in
     let front : w₁ ≡ replicate 8 0 ++ (replicate (5 * s .capacity) 0 ++ rest) =
     e₁
-    ∙ ap₂ (λ k j. replicate k 0 ++ drop j w) g (zero-add end ∙ g)
+    ∙ put-front w (replicate end 0)
+    ∙ ap₂ (λ k j. replicate k 0 ++ drop j w) g (length-replicate {A = ℕ} end 0 ∙ g)
     ∙ ap (λ k. k ++ rest) (sym (replicate-append-replicate 8 (5 * s .capacity) 0))
     ∙ append-assoc (replicate 8 0) (replicate (5 * s .capacity) 0) rest in
     let tail : drop 8 w₁ ≡ replicate (5 * s .capacity) 0 ++ rest =

@@ -1,36 +1,49 @@
 -- The loop of gather: so many of the words are copied.
-use Prim.Native.Nat.{ℕ, _+_, _*_, _≤_, _<_}
-use mathlib.Core.Path.{_≡_, sym, ap, _∙_}
-use mathlib.Core.List.{List, _∷_, _++_, []}
-use native.Mathlib.Numerals.{add-one}
+use Prim.Native.Nat.{ℕ, zero, suc, _+_, _*_, _≤_, _<_}
+use mathlib.Core.Path.{_≡_, refl, sym, ap, _∙_}
+use mathlib.Core.List.{List}
 use native.Mathlib.Omega.{arith}
-use lib.ListN.{length, take, drop, set, getD}
+use lib.ListN.{length, drop, set, getD}
 use lib.Seq.{getD-drop}
+use Rattle.slices.specs.Put.{put}
+use Rattle.slices.proofs.Loops.{Written, written-none, written-more, written-end}
 use Rattle.records.specs.Columns.{fifths}
-use Rattle.records.proofs.Writing.{Written, written-none, written-more, written-end}
-use Rattle.records.proofs.Columns.{fifths-more}
+use Rattle.records.proofs.Columns.{length-fifths}
 
--- The loop of gather: i of n words copied.
-pub record Gathered (w : List ℕ) (first n : ℕ) (old : List ℕ) (at : ℕ) (now : List ℕ) (i : ℕ) : Type 0 where
-  pub part : i ≤ n
-  pub done : Written old at i (fifths i (drop first w)) now
-
-pub gathered-none : (w : List ℕ) (first n : ℕ) (old : List ℕ) (at : ℕ) → at + n ≤ length old → Gathered w first n old at old 0
+fifths-at : (n : ℕ) (w : List ℕ) (i : ℕ) → i < n → getD w (5 * i) 0 ≡ getD (fifths n w) i 0
 unfolding fifths
-gathered-none w first n old at l = record { part = omega arith; done = written-none (omega arith) }
+fifths-at zero w i l = absurd (let no′ : ⊥ = omega arith in no′)
+fifths-at (suc n) w zero l = refl
+fifths-at (suc n) w (suc i) l =
+    ap (λ k. getD w k 0) (let e : 5 * suc i ≡ 5 + 5 * i = omega arith in e)
+    ∙ sym (getD-drop 5 w (5 * i) 0)
+    ∙ fifths-at n (drop 5 w) i (omega arith)
 
-pub gathered-more : {w : List ℕ} {first n : ℕ} {old : List ℕ} {at : ℕ} {now : List ℕ} {i : ℕ} → Gathered w first n old at now i → i < n → at + n ≤ length old → Gathered w first n old at (set now (at + i) (getD w (first + 5 * i) 0)) (i + 1)
-gathered-more {w} {first} {n} {old} {at} {now} {i} h l room =
-    let next : fifths i (drop first w) ++ (getD w (first + 5 * i) 0 ∷ []) ≡ fifths (i + 1) (drop first w) =
-    ap (λ v. fifths i (drop first w) ++ (v ∷ [])) (sym (getD-drop first w (5 * i) 0))
-    ∙ sym (fifths-more i (drop first w))
-    ∙ ap (λ k. fifths k (drop first w)) (sym (add-one i)) in
-    record {
-      part = omega arith;
-      done = rw next at (written-more (getD w (first + 5 * i) 0) (h .done) (omega arith));
-    }
+pub record Gathering (w : List ℕ) (first n : ℕ) (old : List ℕ) (at : ℕ) (now : List ℕ) (i : ℕ) : Type 0 where
+  pub part : i ≤ n
+  pub room : at + n ≤ length old
+  pub long : length now ≡ length old
+  pub done : Written old at (fifths n (drop first w)) i now
 
-pub gathered-end : {w : List ℕ} {first n : ℕ} {old : List ℕ} {at : ℕ} {now : List ℕ} {i : ℕ} → Gathered w first n old at now i → n ≤ i → now ≡ take at old ++ (fifths n (drop first w) ++ drop (at + n) old)
-gathered-end {w} {first} {n} {old} {at} {now} {i} h l =
-    let e : i ≡ n = let part : i ≤ n = h .part in omega arith in
-    written-end n (h .done) e ∙ ap (λ k. take at old ++ (fifths k (drop first w) ++ drop (at + n) old)) e
+module _ (w : List ℕ) (first n : ℕ) where
+  many : length (fifths n (drop first w)) ≡ n
+  many = length-fifths n (drop first w)
+
+  pub gathering-none : (old : List ℕ) (at : ℕ) → at + n ≤ length old → Gathering w first n old at old 0
+  gathering-none old at room =
+      record {
+        part = omega arith;
+        room = room;
+        long = refl;
+        done = written-none old at (fifths n (drop first w)) (omega (arith, many));
+      }
+
+module _ {w : List ℕ} {first n : ℕ} {old : List ℕ} {at : ℕ} {now : List ℕ} {i : ℕ} (h : Gathering w first n old at now i) where
+  pub gathering-more : i < n → Gathering w first n old at (set now (at + i) (getD w (first + 5 * i) 0)) (i + 1)
+  gathering-more l =
+      let done : Written old at (fifths n (drop first w)) (i + 1) (set now (at + i) (getD w (first + 5 * i) 0)) =
+      written-more (h .done) _ (omega (arith, many w first n)) (sym (getD-drop first w (5 * i) 0) ∙ fifths-at n (drop first w) i l) in
+      record { part = omega arith; room = h .room; long = done .long; done = done }
+
+  pub gathering-end : n ≤ i → now ≡ put old at (fifths n (drop first w))
+  gathering-end l = written-end (h .done) (omega (arith, many w first n))

@@ -1,16 +1,17 @@
 -- Laws of records with new contributions, and of the loop that stores them.
 use Prim.Native.Nat.{ℕ, zero, suc, _+_, _-_, _*_, _≤_, _<_}
-use mathlib.Core.Path.{_≡_, refl, sym, ap, _∙_}
+use mathlib.Core.Path.{_≡_, refl, sym, ap, ap₂, _∙_}
 use mathlib.Core.List.{List, _∷_, _++_, append-nil, []}
 use native.Mathlib.Numerals.{add-one}
 use native.Mathlib.Omega.{arith}
-use lib.ListN.{length, take, drop, set, getD, length-drop}
-use lib.Seq.{drop-drop}
+use lib.ListN.{length, take, drop, set, getD, length-drop, length-set}
+use lib.Seq.{drop-drop, length-take-le}
+use Rattle.slices.specs.Put.{put}
+use Rattle.slices.proofs.Put.{length-put, drop-put-all, put-none, put-more, put-then, put-same}
 use Rattle.words.specs.Archive.{Row}
 use Rattle.words.specs.Layout.{record-words, records, read-row, read-rows}
-use Rattle.words.proofs.Reading.{records-append, length-read-rows, stretch, take-stretch}
+use Rattle.words.proofs.Reading.{length-records, records-append, length-read-rows, stretch, take-stretch}
 use Rattle.records.specs.Columns.{rekept}
-use Rattle.records.proofs.Writing.{Written, written-none, written-fifth, written-length}
 
 -- One record more, at the end.
 pub read-rows-more : (n : ℕ) (w : List ℕ) → read-rows (suc n) w ≡ read-rows n w ++ (read-row (drop (5 * n) w) ∷ [])
@@ -35,15 +36,32 @@ record-words-kept : (w : List ℕ) (v : ℕ) → 4 ≤ length w → record-words
 unfolding record-words read-row stretch
 record-words-kept w v l = sym (rw (take-stretch 4 0 w l))
 
+-- The last of five words written behind a part, the four before it left as they are.
+put-fifth : (l : List ℕ) (at : ℕ) (new : List ℕ) (v : ℕ) → at + length new + 5 ≤ length l
+    → set (put l at new) (at + length new + 4) v ≡ put l at (new ++ (take 4 (drop (at + length new) l) ++ (v ∷ [])))
+put-fifth l at new v room =
+    let k : ℕ = at + length new in
+    let m : List ℕ = put l at new in
+    let long : length m ≡ length l = length-put l at new (omega arith) in
+    let behind : drop k m ≡ drop k l = drop-put-all l at new (omega arith) in
+    let four : length (take 4 (drop k m)) ≡ 4 =
+    length-take-le 4 (drop k m) (let s : 4 ≤ length (drop (at + length new) (put l at new)) = omega (arith, length-drop (at + length new) (put l at new)) in s) in
+    let same : put m k (take 4 (drop k m)) ≡ m = put-same m k 4 (let s : at + length new + 4 ≤ length (put l at new) = omega arith in s) in
+    let place : k + 4 ≡ k + length (take 4 (drop k m)) = ap (λ i. k + i) (sym four) in
+    ap₂ (λ x i. set x i v) (sym same) place
+    ∙ put-more m k (take 4 (drop k m)) v (let s : at + length new + length (take 4 (drop (at + length new) (put l at new))) < length (put l at new) = omega arith in s)
+    ∙ put-then l at new (take 4 (drop k m) ++ (v ∷ [])) (omega arith)
+    ∙ ap (λ x. put l at (new ++ (take 4 x ++ (v ∷ [])))) behind
+
 -- The loop of keep: i of n records have their new contribution.
 pub record Keeping (old : List ℕ) (n : ℕ) (vs now : List ℕ) (i : ℕ) : Type 0 where
   pub part : i ≤ n
   pub long : length now ≡ length old
-  pub done : Written old 8 (5 * i) (records (rekept (read-rows i (drop 8 old)) vs)) now
+  pub done : now ≡ put old 8 (records (rekept (read-rows i (drop 8 old)) vs))
 
-pub keeping-none : (old : List ℕ) (n : ℕ) (vs : List ℕ) → 8 + 5 * n ≤ length old → Keeping old n vs old 0
+pub keeping-none : (old : List ℕ) (n : ℕ) (vs : List ℕ) → Keeping old n vs old 0
 unfolding rekept read-rows records
-keeping-none old n vs l = record { part = omega arith; long = refl; done = written-none (omega arith) }
+keeping-none old n vs = record { part = omega arith; long = refl; done = sym (put-none old 8) }
 
 keep-next : (w vs : List ℕ) (i : ℕ) → i < length vs → 5 * i + 5 ≤ length w → records (rekept (read-rows i w) vs) ++ (take 4 (drop (5 * i) w) ++ (getD vs i 0 ∷ [])) ≡ records (rekept (read-rows (i + 1) w) vs)
 unfolding records
@@ -59,20 +77,33 @@ keep-next w vs i l room =
     ∙ ap (λ k. records (rekept (read-rows i w) vs) ++ (record-words (with-kept row (getD vs k 0)) ++ [])) size
     ∙ ap (λ k. records (rekept (read-rows i w) vs) ++ k) (append-nil (record-words (with-kept row (getD vs i 0))) ∙ record-words-kept (drop (5 * i) w) (getD vs i 0) (omega arith)))
 
+length-rekept : (rows : List Row) (vs : List ℕ) → length (rekept rows vs) ≡ length rows
+unfolding rekept
+length-rekept [] vs = refl
+length-rekept (r ∷ rows) [] = refl
+length-rekept (r ∷ rows) (v ∷ vs) = ap suc (length-rekept rows vs)
+
 pub keeping-more : {old : List ℕ} {n : ℕ} {vs now : List ℕ} {i : ℕ} → Keeping old n vs now i → i < n → 8 + 5 * n ≤ length old → n ≤ length vs → Keeping old n vs (set now (12 + 5 * i) (getD vs i 0)) (i + 1)
 keeping-more {old} {n} {vs} {now} {i} h l room values =
+    let new : List ℕ = records (rekept (read-rows i (drop 8 old)) vs) in
+    let size : length new ≡ 5 * i =
+    length-records (rekept (read-rows i (drop 8 old)) vs) ∙ ap (λ k. 5 * k) (length-rekept (read-rows i (drop 8 old)) vs ∙ length-read-rows i (drop 8 old)) in
     let left : length (drop 8 old) ≡ length old - 8 = length-drop 8 old in
-    let place : 8 + 5 * i + 4 ≡ 12 + 5 * i = omega arith in
-    let more : 5 * i + 5 ≡ 5 * (i + 1) = omega arith in
-    let next : records (rekept (read-rows i (drop 8 old)) vs) ++ (take 4 (drop (8 + 5 * i) old) ++ (getD vs i 0 ∷ [])) ≡ records (rekept (read-rows (i + 1) (drop 8 old)) vs) =
-    ap (λ w. records (rekept (read-rows i (drop 8 old)) vs) ++ (take 4 w ++ (getD vs i 0 ∷ []))) (sym (drop-drop (5 * i) 8 old))
+    let place : 12 + 5 * i ≡ 8 + length new + 4 = (let s : 12 + 5 * i ≡ 8 + length (records (rekept (read-rows i (drop 8 old)) vs)) + 4 = omega arith in s) in
+    let next : new ++ (take 4 (drop (8 + length new) old) ++ (getD vs i 0 ∷ [])) ≡ records (rekept (read-rows (i + 1) (drop 8 old)) vs) =
+    ap (λ k. new ++ (take 4 (drop (8 + k) old) ++ (getD vs i 0 ∷ []))) size
+    ∙ ap (λ w. new ++ (take 4 w ++ (getD vs i 0 ∷ []))) (sym (drop-drop (5 * i) 8 old))
     ∙ keep-next (drop 8 old) vs i (omega arith) (omega arith) in
-    let done : Written old 8 (5 * (i + 1)) (records (rekept (read-rows (i + 1) (drop 8 old)) vs)) (set now (12 + 5 * i) (getD vs i 0)) =
-    rw (next, more, place) at (written-fifth (getD vs i 0) (h .done) (omega arith)) in
-    record { part = omega arith; long = written-length done; done = done }
+    record {
+      part = omega arith;
+      long = length-set now (12 + 5 * i) (getD vs i 0) ∙ h .long;
+      done =
+          ap₂ (λ x k. set x k (getD vs i 0)) (h .done) place
+          ∙ put-fifth old 8 new (getD vs i 0) (let s : 8 + length (records (rekept (read-rows i (drop 8 old)) vs)) + 5 ≤ length old = omega arith in s)
+          ∙ ap (put old 8) next;
+    }
 
-pub keeping-end : {old : List ℕ} {n : ℕ} {vs now : List ℕ} {i : ℕ} → Keeping old n vs now i → n ≤ i → now ≡ take 8 old ++ (records (rekept (read-rows n (drop 8 old)) vs) ++ drop (8 + 5 * n) old)
+pub keeping-end : {old : List ℕ} {n : ℕ} {vs now : List ℕ} {i : ℕ} → Keeping old n vs now i → n ≤ i → now ≡ put old 8 (records (rekept (read-rows n (drop 8 old)) vs))
 keeping-end {old} {n} {vs} {now} {i} h l =
     let e : i ≡ n = let part : i ≤ n = h .part in omega arith in
-    h .done .is
-    ∙ ap (λ k. take 8 old ++ (records (rekept (read-rows k (drop 8 old)) vs) ++ drop (8 + 5 * k) old)) e
+    h .done ∙ ap (λ k. put old 8 (records (rekept (read-rows k (drop 8 old)) vs))) e

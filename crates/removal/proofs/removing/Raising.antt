@@ -2,11 +2,12 @@
 use Prim.Native.Nat.{ℕ, zero, suc, _+_, _-_, _≤_, _<_, zero-le}
 use mathlib.Core.Path.{_≡_, refl, sym, ap, ap₂, _∙_}
 use mathlib.Core.Bool.{Bool, true, false, not}
-use mathlib.Core.List.{List, _∷_, _++_, []}
+use mathlib.Core.List.{List, _∷_, []}
 use native.Mathlib.Omega.{arith}
 use lib.Dec.{ltb}
 use borrow.Author.Tests.{lt-ltb, le-ltb}
 use lib.ListN.{length, getD, take}
+use Rattle.slices.specs.Put.{put}
 use Rattle.slices.specs.Choices.{either}
 use Rattle.hypervolume.specs.Cells.{box}
 use Rattle.slices.proofs.Choices.{both-true}
@@ -19,9 +20,9 @@ use Rattle.words.specs.Places.{rows-before, row-at}
 use Rattle.words.proofs.Passed.{passed, row-bounds, passed-row, shape-bounds}
 use Rattle.calls.specs.Calls.{reference-of, held-points, box-of, insert-gain, joint-with, row-of, others, without, removal-loss, exceeds, remove-overruns}
 use Rattle.records.specs.Columns.{field-of, column, leave-out}
-use Rattle.records.specs.Amounts.{moved, some-pair, Each, shares}
+use Rattle.records.specs.Amounts.{moved, some-pair, MovedUnless, Each, shares}
 use Rattle.ask.specs.RecordCounts.{CountedJoints}
-use Rattle.removal.specs.Removing.{number-at, Raised}
+use Rattle.removal.specs.Removing.{number-at, RemoveAmounts}
 use Rattle.records.proofs.LeaveOut.{others-at, row-of-at, length-leave-out}
 use Rattle.calls.proofs.Known.{count-rows, known}
 use Rattle.records.proofs.MovedAmounts.{exceeds-pairs}
@@ -68,10 +69,10 @@ module _ (w : List ℕ) (k : ℕ) (p : archive-rows w 0 ≡ 0) (l : k < word w 0
       ∙ amounts-shares w k (without (read w) (number-at w k)) (row-at w k .trial) q before after r refl rest-rows e c
       ∙ ap (shares (without (read w) (number-at w k)) (row-at w k .trial)) rest-rows
 
-  pub kept-counted : (kept rest : List ℕ) (m j : ℕ) → j ≡ word w 0 - 1 → m ≡ length (leave-out k (rows-before w (word w 0))) → kept ≡ column 4 (leave-out k (rows-before w (word w 0))) ++ rest → take j kept ≡ column 4 (leave-out k (read w .rows))
-  kept-counted kept rest m j s size e =
+  pub kept-counted : (kept old : List ℕ) (m j : ℕ) → j ≡ word w 0 - 1 → m ≡ length (leave-out k (rows-before w (word w 0))) → kept ≡ put old 0 (column 4 (leave-out k (rows-before w (word w 0)))) → take j kept ≡ column 4 (leave-out k (read w .rows))
+  kept-counted kept old m j s size e =
       ap (λ i. take i kept) (s ∙ sym (ap length rest-rows ∙ removing w k p l .many))
-      ∙ kept-loaded w k (word w 0) m (without (read w) (number-at w k)) kept rest refl rest-rows size e
+      ∙ kept-loaded w k (word w 0) m (without (read w) (number-at w k)) kept old refl rest-rows size e
       ∙ ap (column 4) rest-rows
 
 -- Every kept contribution and every joint count is at most the box.
@@ -110,7 +111,7 @@ point-small w k row p l e (suc (suc (suc i))) = zero-le
 
 -- The three ways out of `raised`.
 module _ (w : List ℕ) (k : ℕ) (after : List ℕ) (r : ℕ) (p : archive-rows w 0 ≡ 0) (l : k < word w 0) (lost : r ≡ removal-loss (read w) (number-at w k)) where
-  pub raised-over : word w 5 < r → Raised w k after (record { amount = r; fits = false })
+  pub raised-over : word w 5 < r → RemoveAmounts w k after (record { amount = r; fits = false })
   unfolding remove-overruns either not read
   raised-over m =
       record {
@@ -126,20 +127,15 @@ module _ (w : List ℕ) (k : ℕ) (after : List ℕ) (r : ℕ) (p : archive-rows
       ∙ ap₂ (λ x y. exceeds (without (read w) (number-at w k)) (x .trial) y) (removing w k p l .gone) (removing w k p l .rest)
       ∙ exceeds-pairs (without (read w) (number-at w k)) (row-at w k .trial) (leave-out k (read w .rows))
 
-  pub raised-above : (vs ms : List ℕ) (limit : ℕ) (b : Bool) → r ≤ word w 5 → limit ≡ box-of (read w) → vs ≡ column 4 (leave-out k (read w .rows)) → ms ≡ shares (without (read w) (number-at w k)) (row-at w k .trial) (leave-out k (read w .rows)) → b ≡ some-pair (λ v m. ltb limit (v + m)) vs ms → b ≡ true → Raised w k after (record { amount = r; fits = false })
-  raised-above vs ms limit b m x v a e f =
+  pub raised-judged : (vs ms left : List ℕ) (limit : ℕ) (b : Bool) → r ≤ word w 5 → limit ≡ box-of (read w) → vs ≡ column 4 (leave-out k (read w .rows))
+      → ms ≡ shares (without (read w) (number-at w k)) (row-at w k .trial) (leave-out k (read w .rows))
+      → MovedUnless (λ v m. ltb limit (v + m)) (λ v m. v + m) vs ms left b → take (word w 0 - 1) after ≡ left
+      → RemoveAmounts w k after (record { amount = r; fits = b })
+  raised-judged vs ms left limit b m x v a e f =
       record {
         lost = lost;
-        judged = sym (ap not (behind-total m ∙ ap₂ (some-pair (λ v m. ltb (box-of (read w)) (v + m))) (sym v) (sym a) ∙ ap (λ y. some-pair (λ v m. ltb y (v + m)) vs ms) (sym x) ∙ sym e ∙ f));
-        moved-up = λ z. absurd (let y : _≡_ {A = ℕ} 0 1 = cc in omega arith);
-      }
-
-  pub raised-done : (vs ms : List ℕ) (limit : ℕ) (b : Bool) → r ≤ word w 5 → limit ≡ box-of (read w) → vs ≡ column 4 (leave-out k (read w .rows)) → ms ≡ shares (without (read w) (number-at w k)) (row-at w k .trial) (leave-out k (read w .rows)) → b ≡ some-pair (λ v m. ltb limit (v + m)) vs ms → b ≡ false → take (word w 0 - 1) after ≡ moved (λ v m. v + m) vs ms → Raised w k after (record { amount = r; fits = true })
-  raised-done vs ms limit b m x v a e f t =
-      record {
-        lost = lost;
-        judged = sym (ap not (behind-total m ∙ ap₂ (some-pair (λ v m. ltb (box-of (read w)) (v + m))) (sym v) (sym a) ∙ ap (λ y. some-pair (λ v m. ltb y (v + m)) vs ms) (sym x) ∙ sym e ∙ f));
-        moved-up = λ z. t ∙ ap₂ (moved (λ v m. v + m)) v a;
+        judged = e .judged ∙ sym (ap not (behind-total m ∙ ap₂ (some-pair (λ v m. ltb (box-of (read w)) (v + m))) (sym v) (sym a) ∙ ap (λ y. some-pair (λ v m. ltb y (v + m)) vs ms) (sym x)));
+        moved-up = λ z. f ∙ e .is-moved z ∙ ap₂ (moved (λ v m. v + m)) v a;
       }
 
 -- A bound on every number of a list that is known by another name.

@@ -1,86 +1,71 @@
--- `count_joints` meets its contract: three columns are loaded, and the sweep counts them.
+-- `count_joints` meets its contract: three columns are loaded, and the update counts them.
 use mathlib.Core.Path.{ap, sym, _∙_}
 use native.Mathlib.Omega.{arith}
 use lib.Seq.{length-take-le}
-use borrow.Author.Needs.{needs}
 use Rattle.words.specs.Format.{shape-allowed}
 use Rattle.calls.proofs.Known.{known}
-use Rattle.ask.proofs.Points.{Columns, columns-loaded, columns-are-ready, joints-counted}
+use Rattle.ask.proofs.Points.{columns, columns-are-ready, joints-counted}
+use borrow.Author.Needs.{needs}
 use Rattle.ask.proofs.counts.count_joints.Statement.{statement}
 use Rattle.ask.proofs.counts.count_joints.Tie as tie
 
--- What the three columns hold, where the reference has been read.
-columns : (c : tie.After-reference-of) → Columns (c .before .before .before .before .before .before .before .before .before .before .before .before .before .before .before .before .before .args .w .now) (c .before .before .before .before .before .before .before .before .before .before .before .before .before .before .before .before .before .args .skip) (c .before .before .before .before .before .before .before .before .before .before .before .before .load .result) (c .before .before .before .before .before .before .before .before .before .before .before .before .load .last .1 .1 .1 .1 .0) (c .before .before .before .before .before .before .before .before .before .load2 .last .1 .1 .1 .1 .0) (c .before .before .before .before .before .before .load3 .last .1 .1 .1 .1 .0) (c .reference-of .result .at)
-columns c =
-    columns-loaded (c .before .before .before .before .before .before .before .before .before .before .before .before .before .before .before .before .before .args .w .now) (c .before .before .before .before .before .before .before .before .before .before .before .before .before .before .before .before .before .args .skip) _ _ _ _ _ _ _ _ _
-    (c .before .before .before .before .before .before .before .before .before .before .before .before .load .ensures .0) (c .before .before .before .before .before .before .before .before .before .before .before .before .load .ensures .1) (c .before .before .before .before .before .before .before .before .before .load2 .ensures .1) (c .before .before .before .before .before .before .load3 .ensures .1)
-    (c .before .shape-of .ensures) (c .reference-of .ensures)
+slice-aggregate-load-points : tie.Need-slice-aggregate-load-points
+slice-aggregate-load-points c = search needs
 
-shared-slice-read-n : tie.Need-shared-slice-read-n
-shared-slice-read-n c = omega (arith, known (c .before .before .before .args .w .now) (c .before .before .before .pre .0))
+slice-aggregate-load-points-2 : tie.Need-slice-aggregate-load-points-2
+slice-aggregate-load-points-2 c = search needs
 
-slice-aggregate-load : tie.Need-slice-aggregate-load
-slice-aggregate-load c = search needs
+slice-aggregate-load-points-3 : tie.Need-slice-aggregate-load-points-3
+slice-aggregate-load-points-3 c = search needs
 
-load-requires : tie.Need-load-requires
-load-requires c κs = omega (arith, known (c .before .before .before .before .args .w .now) (c .before .before .before .before .pre .0))
-
-slice-aggregate-load-2 : tie.Need-slice-aggregate-load-2
-slice-aggregate-load-2 c = search needs
-
-load-requires-2 : tie.Need-load-requires-2
-load-requires-2 c κs = omega (arith, known (c .before .before .before .before .before .before .before .args .w .now) (c .before .before .before .before .before .before .before .pre .0))
-
-slice-aggregate-load-3 : tie.Need-slice-aggregate-load-3
-slice-aggregate-load-3 c = search needs
-
-load-requires-3 : tie.Need-load-requires-3
-load-requires-3 c κs = omega (arith, known (c .before .before .before .before .before .before .before .before .before .before .args .w .now) (c .before .before .before .before .before .before .before .before .before .before .pre .0))
+load-points-requires : tie.Need-load-points-requires
+load-points-requires c κs = search needs
 
 array-share-prefix-xs : tie.Need-array-share-prefix-xs
-array-share-prefix-xs c = omega (arith, c .before .before .before .before .before .before .before .load .ensures .2, c .before .before .before .before .before .before .before .load .kept, known (c .before .before .before .before .before .before .before .before .before .before .before .before .args .w .now) (c .before .before .before .before .before .before .before .before .before .before .before .before .pre .0))
+array-share-prefix-xs c = search needs
 
 slice-aggregate-update : tie.Need-slice-aggregate-update
-slice-aggregate-update c = sym (length-take-le _ _ (omega (arith, c .before .before .before .before .before .before .before .before .load .ensures .2, c .before .before .before .before .before .before .before .before .load .kept, known (c .before .before .before .before .before .before .before .before .before .before .before .before .before .args .w .now) (c .before .before .before .before .before .before .before .before .before .before .before .before .before .pre .0))))
+slice-aggregate-update c = sym (length-take-le _ _ (omega (arith, c .before .before .before .before .load-points .ensures .few)))
 
 array-share-prefix-ys : tie.Need-array-share-prefix-ys
-array-share-prefix-ys c = omega (arith, c .before .before .before .before .before .before .before .before .load .ensures .2, c .before .before .before .before .before .load2 .kept, known (c .before .before .before .before .before .before .before .before .before .before .before .before .before .args .w .now) (c .before .before .before .before .before .before .before .before .before .before .before .before .before .pre .0))
+array-share-prefix-ys c = search needs
 
 slice-aggregate-update-2 : tie.Need-slice-aggregate-update-2
-slice-aggregate-update-2 c = sym (length-take-le _ _ (omega (arith, c .before .before .before .before .before .before .before .before .before .load .ensures .2, c .before .before .before .before .before .before .load2 .kept, known (c .before .before .before .before .before .before .before .before .before .before .before .before .before .before .args .w .now) (c .before .before .before .before .before .before .before .before .before .before .before .before .before .before .pre .0))))
+slice-aggregate-update-2 c = sym (length-take-le _ _ (omega (arith, c .before .before .before .before .before .load-points .ensures .few)))
 
 array-share-prefix-zs : tie.Need-array-share-prefix-zs
-array-share-prefix-zs c = omega (arith, c .before .before .before .before .before .before .before .before .before .load .ensures .2, c .before .before .before .load3 .kept, known (c .before .before .before .before .before .before .before .before .before .before .before .before .before .before .args .w .now) (c .before .before .before .before .before .before .before .before .before .before .before .before .before .before .pre .0))
+array-share-prefix-zs c = search needs
 
 slice-aggregate-update-3 : tie.Need-slice-aggregate-update-3
-slice-aggregate-update-3 c = sym (length-take-le _ _ (omega (arith, c .before .before .before .before .before .before .before .before .before .before .load .ensures .2, c .before .before .before .before .load3 .kept, known (c .before .before .before .before .before .before .before .before .before .before .before .before .before .before .before .args .w .now) (c .before .before .before .before .before .before .before .before .before .before .before .before .before .before .before .pre .0))))
+slice-aggregate-update-3 c = sym (length-take-le _ _ (omega (arith, c .before .before .before .before .before .before .load-points .ensures .few)))
 
 shape-of-requires : tie.Need-shape-of-requires
-shape-of-requires c κs = omega (arith, known (c .before .before .before .before .before .before .before .before .before .before .before .before .before .before .before .args .w .now) (c .before .before .before .before .before .before .before .before .before .before .before .before .before .before .before .pre .0))
+shape-of-requires c κs = omega (arith, known (c .before .before .before .before .before .before .before .before .before .before .before .before .args .w .now) (c .before .before .before .before .before .before .before .before .before .before .before .before .pre .0))
 
 reference-of-requires : tie.Need-reference-of-requires
-reference-of-requires c κs = ap shape-allowed (c .shape-of .ensures) ∙ known (c .before .before .before .before .before .before .before .before .before .before .before .before .before .before .before .before .args .w .now) (c .before .before .before .before .before .before .before .before .before .before .before .before .before .before .before .before .pre .0) .shaped
+reference-of-requires c κs = ap shape-allowed (c .shape-of .ensures) ∙ known (c .before .before .before .before .before .before .before .before .before .before .before .before .before .args .w .now) (c .before .before .before .before .before .before .before .before .before .before .before .before .before .pre .0) .shaped
 
 update-requires : tie.Need-update-requires
-update-requires c κs = (columns-are-ready _ (columns (c .before)) (c .before .before .before .before .before .before .before .before .before .before .before .before .before .before .before .before .before .before .pre .0) (c .before .before .before .before .before .before .before .before .before .before .before .before .before .before .before .before .before .before .pre .1) (c .before .before .before .before .before .before .before .before .before .before .before .before .before .before .before .before .before .before .pre .2), c .before .before .before .before .before .before .before .before .before .before .before .before .before .before .before .before .before .before .pre .3)
+update-requires c κs = 
+    let start = c .before .before .before .before .before .before .before .before .before .before .before .before .before .before .before in
+    (columns-are-ready _ (columns _ (c .before .before .before .before .before .before .before .before .before .load-points .ensures) (c .before .before .shape-of .ensures) (c .before .reference-of .ensures)) (start .pre .0) (start .pre .1) (start .pre .2), start .pre .3)
 
 same-length : tie.Need-same-length
 same-length c = search needs
 
 returns : tie.Need-returns
-returns c = joints-counted _ _ _ _ (columns (c .before .before .before .before)) (c .before .before .update .ensures .0) (c .before .before .update .ensures .1)
+returns c = 
+    joints-counted _ _ _ _ (columns _ (c .before .before .before .before .before .before .before .before .before .before .before .before .load-points .ensures) (c .before .before .before .before .before .shape-of .ensures) (c .before .before .before .before .reference-of .ensures))
+    (c .before .before .update .ensures .0) (c .before .before .update .ensures .1)
 
 pub count-joints-spec : {M : Type 1} → statement M
 count-joints-spec =
     tie.close
     (tie.spec
-    shared-slice-read-n
-    slice-aggregate-load
-    load-requires
-    slice-aggregate-load-2
-    load-requires-2
-    slice-aggregate-load-3
-    load-requires-3
+    slice-aggregate-load-points
+    slice-aggregate-load-points-2
+    slice-aggregate-load-points-3
+    load-points-requires
     array-share-prefix-xs
     slice-aggregate-update
     array-share-prefix-ys

@@ -1,4 +1,5 @@
 -- `joint` meets its contract: rows 1 to 3 refuse, or the inner function answers.
+use mathlib.Core.Path.{_∙_}
 use Rattle.ask.proofs.questions.Asking.{answer-turned}
 use Rattle.calls.specs.Lent.{joint}
 use borrow.Author.Needs.{needs}
@@ -8,9 +9,12 @@ use Rattle.ask.proofs.questions.joint.Tie as tie
 refusal-requires : tie.Need-refusal-requires
 refusal-requires c κs = search needs
 
+refused-requires : tie.Need-refused-requires
+refused-requires c κs = search needs
+
 returns : tie.Need-returns
 unfolding joint
-returns c = answer-turned _ _ _ _ (c .before .refusal .ensures) (c .if1 .taken)
+returns c = c .refused .ensures ∙ answer-turned _ _ _ _ (c .before .before .refusal .ensures) (c .before .if1 .taken)
 
 joint-in-requires : tie.Need-joint-in-requires
 joint-in-requires c κs = search needs
@@ -19,4 +23,5 @@ returns-2 : tie.Need-returns-2
 returns-2 c = search needs
 
 pub joint-spec : {M : Type 1} → statement M
-joint-spec = tie.close (tie.spec refusal-requires returns joint-in-requires returns-2)
+joint-spec =
+    tie.close (tie.spec refusal-requires refused-requires returns joint-in-requires returns-2)

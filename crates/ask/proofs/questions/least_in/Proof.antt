@@ -4,14 +4,18 @@ use native.Mathlib.Omega.{arith}
 use Rattle.words.specs.Places.{as-row}
 use Rattle.calls.proofs.Known.{known}
 use Rattle.ask.proofs.questions.Asking.{least-none-held, least-found}
+use borrow.Author.Needs.{needs}
 use Rattle.ask.proofs.questions.least_in.Statement.{statement}
 use Rattle.ask.proofs.questions.least_in.Tie as tie
 
 shared-slice-read-n : tie.Need-shared-slice-read-n
 shared-slice-read-n c = omega (arith, known (c .before .before .args .w .now) (c .before .before .pre))
 
+refused-requires : tie.Need-refused-requires
+refused-requires c κs = search needs
+
 returns : tie.Need-returns
-returns c = least-none-held (c .before .before .before .args .w .now) (c .before .before .before .pre) (c .if1 .taken)
+returns c = c .refused .ensures ∙ least-none-held (c .before .before .before .before .args .w .now) (c .before .before .before .before .pre) (c .before .if1 .taken)
 
 least-place-requires : tie.Need-least-place-requires
 least-place-requires c κs = omega (arith, known (c .before .before .before .args .w .now) (c .before .before .before .pre), c .if1 .left)
@@ -24,4 +28,11 @@ returns-2 c = least-found (c .before .before .before .before .before .args .w .n
 
 pub least-in-spec : {M : Type 1} → statement M
 least-in-spec =
-    tie.close (tie.spec shared-slice-read-n returns least-place-requires row-at-requires returns-2)
+    tie.close
+    (tie.spec
+    shared-slice-read-n
+    refused-requires
+    returns
+    least-place-requires
+    row-at-requires
+    returns-2)

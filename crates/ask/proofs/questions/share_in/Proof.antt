@@ -8,6 +8,7 @@ use Rattle.words.specs.Layout.{read}
 use Rattle.calls.specs.Calls.{box-of}
 use Rattle.calls.proofs.Known.{known}
 use Rattle.ask.proofs.questions.Asking.{share-asks, share-value}
+use borrow.Author.Needs.{needs}
 use Rattle.ask.proofs.questions.share_in.Statement.{statement}
 use Rattle.ask.proofs.questions.share_in.Tie as tie
 
@@ -27,8 +28,11 @@ box-of-requires c κs = ap shape-allowed (c .shape-of .ensures) ∙ known (c .be
 millionths-requires : tie.Need-millionths-requires
 millionths-requires c κs = share-asks (c .before .before .before .before .args .w .now) _ (c .before .before .before .before .pre) (boxed c)
 
+done-requires : tie.Need-done-requires
+done-requires c κs = search needs
+
 returns : tie.Need-returns
-returns c = share-value (c .before .before .before .before .before .args .w .now) _ _ (c .before .before .before .before .before .pre) (boxed (c .before)) (c .millionths .ensures)
+returns c = c .done .ensures ∙ share-value (c .before .before .before .before .before .before .args .w .now) _ _ (c .before .before .before .before .before .before .pre) (boxed (c .before .before)) (c .before .millionths .ensures)
 
 pub share-in-spec : {M : Type 1} → statement M
 share-in-spec =
@@ -38,4 +42,5 @@ share-in-spec =
     shape-of-requires
     box-of-requires
     millionths-requires
+    done-requires
     returns)

@@ -1,20 +1,20 @@
--- `lowered` meets its contract: the amounts are counted, judged by row 13, and taken from the contributions.
+-- `lowered` meets its contract: row 13 by the total, or by a contribution, or the contributions less their joint counts.
 use mathlib.Core.Path.{_≡_, refl, sym, ap, _∙_}
-use native.Mathlib.Omega.{arith}
 use native.Mathlib.Nat.{le-refl}
+use native.Mathlib.Omega.{arith}
 use lib.ListN.{getD}
 use lib.Seq.{length-take-le}
-use borrow.Author.Needs.{needs}
 use Rattle.hypervolume.specs.Cells.{box}
 use Rattle.words.specs.Archive.{reference}
-use Rattle.words.specs.Format.{shape-allowed}
 use Rattle.words.specs.Layout.{read}
+use Rattle.words.specs.Format.{shape-allowed}
 use Rattle.words.specs.Places.{as-row}
 use Rattle.calls.specs.Calls.{box-of}
 use Rattle.calls.proofs.Known.{known}
 use Rattle.ask.proofs.Points.{allowed-small}
-use Rattle.insertion.proofs.inserting.Lowering.{gain-fits, lowered-over, lowered-below, lowered-done}
-use Rattle.ask.proofs.CountedAmounts.{gain-front, kept-front, shares-front, front-of}
+use Rattle.ask.proofs.CountedAmounts.{kept-front, shares-front, gain-front, front-of}
+use Rattle.insertion.proofs.inserting.Lowering.{lowered-over, lowered-judged, gain-fits}
+use borrow.Author.Needs.{needs}
 use Rattle.insertion.proofs.inserting.lowered.Statement.{statement}
 use Rattle.insertion.proofs.inserting.lowered.Tie as tie
 
@@ -47,55 +47,52 @@ shared-slice-read-if1 : tie.Need-shared-slice-read-if1
 shared-slice-read-if1 c = omega (arith, known (c .before .before .before .before .before .before .before .before .before .before .before .before .before .before .args .w .now) (c .before .before .before .before .before .before .before .before .before .before .before .before .before .before .pre .0))
 
 add-if1 : tie.Need-add-if1
-add-if1 c = omega (arith, gain-fits (c .before .before .before .before .before .before .before .before .before .before .before .before .before .before .args .w .now) (as-row (c .before .before .before .before .before .before .before .before .before .before .before .before .before .before .args .row) .trial) _ (c .before .before .before .before .before .before .before .before .before .before .before .before .before .before .pre .0) (gain-front (c .before .before .before .before .before .before .before .before .before .before .before .before .before .before .args .w .now) _ _ _ _ _ (c .before .before .before .before .before .before .before .before .before .before .point-of .ensures) (c .before .before .before .before .before .before .before .before .count-joints .ensures)))
+add-if1 c = 
+    omega (
+      arith,
+      gain-fits (c .before .before .before .before .before .before .before .before .before .before .before .before .before .before .args .w .now) (as-row (c .before .before .before .before .before .before .before .before .before .before .before .before .before .before .args .row) .trial) _ (c .before .before .before .before .before .before .before .before .before .before .before .before .before .before .pre .0)
+      (gain-front (c .before .before .before .before .before .before .before .before .before .before .before .before .before .before .args .w .now) _ _ _ _ _ (c .before .before .before .before .before .before .before .before .before .before .point-of .ensures) (c .before .before .before .before .before .before .before .before .count-joints .ensures)),
+    )
 
 same-length : tie.Need-same-length
 same-length c = search needs
 
 returns : tie.Need-returns
-returns c = lowered-over (c .before .before .before .before .before .before .before .before .before .before .before .before .before .before .before .args .w .now) _ _ _ _ (gain-front (c .before .before .before .before .before .before .before .before .before .before .before .before .before .before .before .args .w .now) _ _ _ _ _ (c .before .before .before .before .before .before .before .before .before .before .before .point-of .ensures) (c .before .before .before .before .before .before .before .before .before .count-joints .ensures)) (boxed (c .before .before)) (c .if1 .taken)
+returns c = 
+    lowered-over (c .before .before .before .before .before .before .before .before .before .before .before .before .before .before .before .args .w .now) _ _ _ _
+    (gain-front (c .before .before .before .before .before .before .before .before .before .before .before .before .before .before .before .args .w .now) _ _ _ _ _ (c .before .before .before .before .before .before .before .before .before .before .before .point-of .ensures) (c .before .before .before .before .before .before .before .before .before .count-joints .ensures))
+    (boxed (c .before .before)) (c .if1 .taken)
 
-slice-reshare-prefix-some-below : tie.Need-slice-reshare-prefix-some-below
-slice-reshare-prefix-some-below c = omega (arith, c .before .before .before .before .before .before .load .kept, c .before .before .before .before .before .before .before .before .before .before .before .before .before .before .before .pre .2, known (c .before .before .before .before .before .before .before .before .before .before .before .before .before .before .before .args .w .now) (c .before .before .before .before .before .before .before .before .before .before .before .before .before .before .before .pre .0))
+slice-relend-prefix-lower : tie.Need-slice-relend-prefix-lower
+slice-relend-prefix-lower c = omega (arith, c .before .before .before .before .before .before .load .kept, c .before .before .before .before .before .before .before .before .before .before .before .before .before .before .before .pre .2, known (c .before .before .before .before .before .before .before .before .before .before .before .before .before .before .before .args .w .now) (c .before .before .before .before .before .before .before .before .before .before .before .before .before .before .before .pre .0))
 
-slice-aggregate-some-below : tie.Need-slice-aggregate-some-below
-slice-aggregate-some-below c = sym (length-take-le _ _ (omega (arith, c .before .before .before .before .before .before .before .load .kept, c .before .before .before .before .before .before .before .before .before .before .before .before .before .before .before .before .pre .2, known (c .before .before .before .before .before .before .before .before .before .before .before .before .before .before .before .before .args .w .now) (c .before .before .before .before .before .before .before .before .before .before .before .before .before .before .before .before .pre .0))))
+slice-aggregate-lower : tie.Need-slice-aggregate-lower
+slice-aggregate-lower c = sym (length-take-le _ _ (omega (arith, c .before .before .before .before .before .before .before .load .kept, c .before .before .before .before .before .before .before .before .before .before .before .before .before .before .before .before .pre .2, known (c .before .before .before .before .before .before .before .before .before .before .before .before .before .before .before .before .args .w .now) (c .before .before .before .before .before .before .before .before .before .before .before .before .before .before .before .before .pre .0))))
 
 array-share-prefix-joints : tie.Need-array-share-prefix-joints
 array-share-prefix-joints c = omega (arith, c .before .before .before .before .before .before .before .before .before .before .count-joints .kept, known (c .before .before .before .before .before .before .before .before .before .before .before .before .before .before .before .before .args .w .now) (c .before .before .before .before .before .before .before .before .before .before .before .before .before .before .before .before .pre .0))
 
-slice-aggregate-some-below-2 : tie.Need-slice-aggregate-some-below-2
-slice-aggregate-some-below-2 c = sym (length-take-le _ _ (omega (arith, c .before .before .before .before .before .before .before .before .before .before .before .count-joints .kept, known (c .before .before .before .before .before .before .before .before .before .before .before .before .before .before .before .before .before .args .w .now) (c .before .before .before .before .before .before .before .before .before .before .before .before .before .before .before .before .before .pre .0))))
+slice-aggregate-lower-2 : tie.Need-slice-aggregate-lower-2
+slice-aggregate-lower-2 c = sym (length-take-le _ _ (omega (arith, c .before .before .before .before .before .before .before .before .before .before .before .count-joints .kept, known (c .before .before .before .before .before .before .before .before .before .before .before .before .before .before .before .before .before .args .w .now) (c .before .before .before .before .before .before .before .before .before .before .before .before .before .before .before .before .before .pre .0))))
 
-some-below-requires : tie.Need-some-below-requires
-some-below-requires c κs = length-take-le (getD (c .before .before .before .before .before .before .before .before .before .before .before .before .before .before .before .before .before .args .w .now) 0 0) (c .before .before .before .before .before .before .before .before .before .before .before .count-joints .last .1 .1 .1 .0) (omega (arith, c .before .before .before .before .before .before .before .before .before .before .before .count-joints .kept, known (c .before .before .before .before .before .before .before .before .before .before .before .before .before .before .before .before .before .args .w .now) (c .before .before .before .before .before .before .before .before .before .before .before .before .before .before .before .before .before .pre .0))) ∙ sym (length-take-le (getD (c .before .before .before .before .before .before .before .before .before .before .before .before .before .before .before .before .before .args .w .now) 0 0) (c .before .before .before .before .before .before .before .before .load .last .1 .1 .1 .1 .0) (omega (arith, c .before .before .before .before .before .before .before .before .load .kept, c .before .before .before .before .before .before .before .before .before .before .before .before .before .before .before .before .before .pre .2, known (c .before .before .before .before .before .before .before .before .before .before .before .before .before .before .before .before .before .args .w .now) (c .before .before .before .before .before .before .before .before .before .before .before .before .before .before .before .before .before .pre .0))))
+lower-requires : tie.Need-lower-requires
+lower-requires c κs = 
+    length-take-le (getD (c .before .before .before .before .before .before .before .before .before .before .before .before .before .before .before .before .before .args .w .now) 0 0) (c .before .before .before .before .before .before .before .before .before .before .before .count-joints .last .1 .1 .1 .0) (omega (arith, c .before .before .before .before .before .before .before .before .before .before .before .count-joints .kept, known (c .before .before .before .before .before .before .before .before .before .before .before .before .before .before .before .before .before .args .w .now) (c .before .before .before .before .before .before .before .before .before .before .before .before .before .before .before .before .before .pre .0)))
+    ∙ sym (length-take-le (getD (c .before .before .before .before .before .before .before .before .before .before .before .before .before .before .before .before .before .args .w .now) 0 0) (c .before .before .before .before .before .before .before .before .load .last .1 .1 .1 .1 .0) (omega (arith, c .before .before .before .before .before .before .before .before .load .kept, c .before .before .before .before .before .before .before .before .before .before .before .before .before .before .before .before .before .pre .2, known (c .before .before .before .before .before .before .before .before .before .before .before .before .before .before .before .before .before .args .w .now) (c .before .before .before .before .before .before .before .before .before .before .before .before .before .before .before .before .before .pre .0))))
 
 same-length-2 : tie.Need-same-length-2
 same-length-2 c = search needs
 
 returns-2 : tie.Need-returns-2
-returns-2 c = lowered-below (c .before .before .before .before .before .before .before .before .before .before .before .before .before .before .before .before .before .before .before .args .w .now) _ _ _ _ (gain-front (c .before .before .before .before .before .before .before .before .before .before .before .before .before .before .before .before .before .before .before .args .w .now) _ _ _ _ _ (c .before .before .before .before .before .before .before .before .before .before .before .before .before .before .before .point-of .ensures) (c .before .before .before .before .before .before .before .before .before .before .before .before .before .count-joints .ensures)) (boxed (c .before .before .before .before .before .before)) _ _ _ (c .before .before .before .before .if1 .left) (kept-front (c .before .before .before .before .before .before .before .before .before .before .before .before .before .before .before .before .before .before .before .args .w .now) _ _ _ (c .before .before .before .before .before .before .before .before .before .before .load .ensures .0) (c .before .before .before .before .before .before .before .before .before .before .load .ensures .1)) (shares-front (c .before .before .before .before .before .before .before .before .before .before .before .before .before .before .before .before .before .before .before .args .w .now) _ _ _ _ _ (c .before .before .before .before .before .before .before .before .before .before .before .before .before .before .before .point-of .ensures) (c .before .before .before .before .before .before .before .before .before .before .before .before .before .count-joints .ensures)) (c .before .some-below .ensures) (c .if2 .taken)
-
-slice-relend-prefix-lower : tie.Need-slice-relend-prefix-lower
-slice-relend-prefix-lower c = omega (arith, c .before .before .before .before .before .before .before .before .before .before .load .kept, c .before .before .before .before .before .before .before .before .before .before .before .before .before .before .before .before .before .before .before .pre .2, known (c .before .before .before .before .before .before .before .before .before .before .before .before .before .before .before .before .before .before .before .args .w .now) (c .before .before .before .before .before .before .before .before .before .before .before .before .before .before .before .before .before .before .before .pre .0))
-
-slice-aggregate-lower : tie.Need-slice-aggregate-lower
-slice-aggregate-lower c = sym (length-take-le _ _ (omega (arith, c .before .before .before .before .before .before .before .before .before .before .before .load .kept, c .before .before .before .before .before .before .before .before .before .before .before .before .before .before .before .before .before .before .before .before .pre .2, known (c .before .before .before .before .before .before .before .before .before .before .before .before .before .before .before .before .before .before .before .before .args .w .now) (c .before .before .before .before .before .before .before .before .before .before .before .before .before .before .before .before .before .before .before .before .pre .0))))
-
-array-share-prefix-joints-2 : tie.Need-array-share-prefix-joints-2
-array-share-prefix-joints-2 c = omega (arith, c .before .before .before .before .before .before .before .before .before .before .before .before .before .before .count-joints .kept, known (c .before .before .before .before .before .before .before .before .before .before .before .before .before .before .before .before .before .before .before .before .args .w .now) (c .before .before .before .before .before .before .before .before .before .before .before .before .before .before .before .before .before .before .before .before .pre .0))
-
-slice-aggregate-lower-2 : tie.Need-slice-aggregate-lower-2
-slice-aggregate-lower-2 c = sym (length-take-le _ _ (omega (arith, c .before .before .before .before .before .before .before .before .before .before .before .before .before .before .before .count-joints .kept, known (c .before .before .before .before .before .before .before .before .before .before .before .before .before .before .before .before .before .before .before .before .before .args .w .now) (c .before .before .before .before .before .before .before .before .before .before .before .before .before .before .before .before .before .before .before .before .before .pre .0))))
-
-lower-requires : tie.Need-lower-requires
-lower-requires c κs = (length-take-le (getD (c .before .before .before .before .before .before .before .before .before .before .before .before .before .before .before .before .before .before .before .before .before .args .w .now) 0 0) (c .before .before .before .before .before .before .before .before .before .before .before .before .before .before .before .count-joints .last .1 .1 .1 .0) (omega (arith, c .before .before .before .before .before .before .before .before .before .before .before .before .before .before .before .count-joints .kept, known (c .before .before .before .before .before .before .before .before .before .before .before .before .before .before .before .before .before .before .before .before .before .args .w .now) (c .before .before .before .before .before .before .before .before .before .before .before .before .before .before .before .before .before .before .before .before .before .pre .0))) ∙ sym (length-take-le (getD (c .before .before .before .before .before .before .before .before .before .before .before .before .before .before .before .before .before .before .before .before .before .args .w .now) 0 0) (c .before .before .before .before .before .before .before .before .before .before .before .before .load .last .1 .1 .1 .1 .0) (omega (arith, c .before .before .before .before .before .before .before .before .before .before .before .before .load .kept, c .before .before .before .before .before .before .before .before .before .before .before .before .before .before .before .before .before .before .before .before .before .pre .2, known (c .before .before .before .before .before .before .before .before .before .before .before .before .before .before .before .before .before .before .before .before .before .args .w .now) (c .before .before .before .before .before .before .before .before .before .before .before .before .before .before .before .before .before .before .before .before .before .pre .0)))), sym (c .before .before .before .some-below .ensures) ∙ c .before .before .if2 .left)
-
-same-length-3 : tie.Need-same-length-3
-same-length-3 c = search needs
-
-returns-3 : tie.Need-returns-3
-returns-3 c = lowered-done (c .before .before .before .before .before .before .before .before .before .before .before .before .before .before .before .before .before .before .before .before .before .before .before .before .args .w .now) _ _ _ _ (gain-front (c .before .before .before .before .before .before .before .before .before .before .before .before .before .before .before .before .before .before .before .before .before .before .before .before .args .w .now) _ _ _ _ _ (c .before .before .before .before .before .before .before .before .before .before .before .before .before .before .before .before .before .before .before .before .point-of .ensures) (c .before .before .before .before .before .before .before .before .before .before .before .before .before .before .before .before .before .before .count-joints .ensures)) (boxed (c .before .before .before .before .before .before .before .before .before .before .before)) _ _ _ (c .before .before .before .before .before .before .before .before .before .if1 .left) (kept-front (c .before .before .before .before .before .before .before .before .before .before .before .before .before .before .before .before .before .before .before .before .before .before .before .before .args .w .now) _ _ _ (c .before .before .before .before .before .before .before .before .before .before .before .before .before .before .before .load .ensures .0) (c .before .before .before .before .before .before .before .before .before .before .before .before .before .before .before .load .ensures .1)) (shares-front (c .before .before .before .before .before .before .before .before .before .before .before .before .before .before .before .before .before .before .before .before .before .before .before .before .args .w .now) _ _ _ _ _ (c .before .before .before .before .before .before .before .before .before .before .before .before .before .before .before .before .before .before .before .before .point-of .ensures) (c .before .before .before .before .before .before .before .before .before .before .before .before .before .before .before .before .before .before .count-joints .ensures)) (c .before .before .before .before .before .before .some-below .ensures) (c .before .before .before .before .before .if2 .left) (front-of _ (c .before .before .before .before .before .before .before .before .before .before .before .before .before .before .before .load .last .1 .1 .1 .1 .0) (getD (c .before .before .before .before .before .before .before .before .before .before .before .before .before .before .before .before .before .before .before .before .before .before .before .before .args .w .now) 0 0) _ (c .before .before .lower .kept .0) (omega (arith, c .before .before .before .before .before .before .before .before .before .before .before .before .before .before .before .load .kept, c .before .before .before .before .before .before .before .before .before .before .before .before .before .before .before .before .before .before .before .before .before .before .before .before .pre .2, known (c .before .before .before .before .before .before .before .before .before .before .before .before .before .before .before .before .before .before .before .before .before .before .before .before .args .w .now) (c .before .before .before .before .before .before .before .before .before .before .before .before .before .before .before .before .before .before .before .before .before .before .before .before .pre .0))) refl ∙ c .before .before .lower .ensures)
+returns-2 c = 
+    let start = c .before .before .before .before .before .before .before .before .before .before .before .before .before .before .before .before .before .before .before .before in
+    let lent = c .before .before .before .before .before .before .before .before .before .before .before .before .before .before in
+    let gained = (gain-front (c .before .before .before .before .before .before .before .before .before .before .before .before .before .before .before .before .before .before .before .before .args .w .now) _ _ _ _ _ (c .before .before .before .before .before .before .before .before .before .before .before .before .before .before .before .before .point-of .ensures) (c .before .before .before .before .before .before .before .before .before .before .before .before .before .before .count-joints .ensures)) in
+    lowered-judged (start .args .w .now) _ _ _ _ gained (boxed (c .before .before .before .before .before .before .before)) _ _ _ _ (c .before .before .before .before .before .if1 .left)
+    (kept-front (start .args .w .now) _ _ _ (c .before .before .before .before .before .before .before .before .before .before .before .load .ensures .0) (c .before .before .before .before .before .before .before .before .before .before .before .load .ensures .1))
+    (shares-front (start .args .w .now) _ _ _ _ _ (c .before .before .before .before .before .before .before .before .before .before .before .before .before .before .before .before .point-of .ensures) (lent .count-joints .ensures)) (c .before .before .lower .ensures)
+    (front-of _ (c .before .before .before .before .before .before .before .before .before .before .before .load .last .1 .1 .1 .1 .0) (getD (start .args .w .now) 0 0) _ (c .before .before .lower .kept .0)
+    (omega (arith, c .before .before .before .before .before .before .before .before .before .before .before .load .kept, c .before .before .before .before .before .before .before .before .before .before .before .before .before .before .before .before .before .before .before .before .pre .2, known (c .before .before .before .before .before .before .before .before .before .before .before .before .before .before .before .before .before .before .before .before .args .w .now) (c .before .before .before .before .before .before .before .before .before .before .before .before .before .before .before .before .before .before .before .before .pre .0))) refl)
 
 pub lowered-spec : {M : Type 1} → statement M
 lowered-spec =
@@ -112,17 +109,10 @@ lowered-spec =
     add-if1
     same-length
     returns
-    slice-reshare-prefix-some-below
-    slice-aggregate-some-below
-    array-share-prefix-joints
-    slice-aggregate-some-below-2
-    some-below-requires
-    same-length-2
-    returns-2
     slice-relend-prefix-lower
     slice-aggregate-lower
-    array-share-prefix-joints-2
+    array-share-prefix-joints
     slice-aggregate-lower-2
     lower-requires
-    same-length-3
-    returns-3)
+    same-length-2
+    returns-2)

@@ -1,55 +1,76 @@
--- `lower` meets its contract: after i turns the first i values are moved.
+-- `lower` meets its contract: after i turns the first i values are moved, and no pair passed was too low.
 use Prim.Native.Nat.{_-_}
 use native.Mathlib.Omega.{arith}
+use borrow.Author.Needs.{needs}
+use borrow.Author.Tests.{lt-ltb, le-ltb}
+use lib.Dec.{ltb}
 use lib.ListN.{length}
-use Rattle.records.proofs.amounts.Loops.{Moving, moving-none, moving-more, moving-end, lower-fits}
+use Rattle.records.proofs.amounts.Loops.{Moving, moving-none, moving-found, moving-more, moving-end}
 use Rattle.records.proofs.amounts.lower.Statement.{statement}
 use Rattle.records.proofs.amounts.lower.Tie as tie
 
 abbrev Inv-loop : tie.InvT-loop
-Inv-loop values₀ amounts i₀ values i = Moving (λ v m. v - m) values₀ amounts values i
+Inv-loop values₀ amounts i₀ values i = Moving (λ v m. ltb v m) (λ v m. v - m) values₀ amounts values i
 
 abbrev μ-loop : tie.MeasureT-loop
 μ-loop values₀ amounts i₀ values i = length values₀ - i
 
 loop-holds : tie.Need-loop-holds Inv-loop μ-loop
-loop-holds c = moving-none _ (c .pre .0)
+loop-holds c = moving-none _ _ (c .pre)
 
-mul-values : tie.Need-mul-values Inv-loop μ-loop
-mul-values c = omega arith
+mul-if1 : tie.Need-mul-if1 Inv-loop μ-loop
+mul-if1 c = search needs
 
-slice-read-values : tie.Need-slice-read-values Inv-loop μ-loop
-slice-read-values c = omega arith
+slice-read-if1 : tie.Need-slice-read-if1 Inv-loop μ-loop
+slice-read-if1 c = search needs
 
-mul-values-2 : tie.Need-mul-values-2 Inv-loop μ-loop
-mul-values-2 c = omega arith
+mul-if1-2 : tie.Need-mul-if1-2 Inv-loop μ-loop
+mul-if1-2 c = search needs
 
-shared-slice-read-values : tie.Need-shared-slice-read-values Inv-loop μ-loop
-shared-slice-read-values c = omega arith
-
-sub-values : tie.Need-sub-values Inv-loop μ-loop
-sub-values c = lower-fits (c .before .before .before .loop .inv) (omega arith) (c .before .before .before .before .pre .1)
-
-mul-values-3 : tie.Need-mul-values-3 Inv-loop μ-loop
-mul-values-3 c = omega arith
-
-slice-write-values : tie.Need-slice-write-values Inv-loop μ-loop
-slice-write-values c = omega arith
-
-add-i : tie.Need-add-i Inv-loop μ-loop
-add-i c = omega arith
-
-loop-less : tie.Need-loop-less Inv-loop μ-loop
-loop-less c = omega arith
-
-loop-again : tie.Need-loop-again Inv-loop μ-loop
-loop-again c = moving-more (c .before .before .before .loop .inv) (omega arith)
+shared-slice-read-if1 : tie.Need-shared-slice-read-if1 Inv-loop μ-loop
+shared-slice-read-if1 c = search needs
 
 same-length : tie.Need-same-length Inv-loop μ-loop
-same-length c = c .before .loop .inv .long
+same-length c = c .before .before .before .before .loop .inv .long
 
 returns : tie.Need-returns Inv-loop μ-loop
-returns c = moving-end (c .before .loop .inv) (c .loop-test .left)
+returns c = moving-found (c .before .before .before .before .loop .inv) (omega arith) (lt-ltb _ _ (c .if1 .taken))
+
+mul-values : tie.Need-mul-values Inv-loop μ-loop
+mul-values c = search needs
+
+slice-read-values : tie.Need-slice-read-values Inv-loop μ-loop
+slice-read-values c = search needs
+
+mul-values-2 : tie.Need-mul-values-2 Inv-loop μ-loop
+mul-values-2 c = search needs
+
+shared-slice-read-values : tie.Need-shared-slice-read-values Inv-loop μ-loop
+shared-slice-read-values c = search needs
+
+sub-values : tie.Need-sub-values Inv-loop μ-loop
+sub-values c = search needs
+
+mul-values-3 : tie.Need-mul-values-3 Inv-loop μ-loop
+mul-values-3 c = search needs
+
+slice-write-values : tie.Need-slice-write-values Inv-loop μ-loop
+slice-write-values c = search needs
+
+add-i : tie.Need-add-i Inv-loop μ-loop
+add-i c = search needs
+
+loop-less : tie.Need-loop-less Inv-loop μ-loop
+loop-less c = search needs
+
+loop-again : tie.Need-loop-again Inv-loop μ-loop
+loop-again c = moving-more (c .before .before .before .before .before .before .loop .inv) (omega arith) (le-ltb _ _ (c .before .before .if1 .left))
+
+same-length-2 : tie.Need-same-length-2 Inv-loop μ-loop
+same-length-2 c = c .before .loop .inv .long
+
+returns-2 : tie.Need-returns-2 Inv-loop μ-loop
+returns-2 c = moving-end (c .before .loop .inv) (c .loop-test .left)
 
 pub lower-spec : {M : Type 1} → statement M
 lower-spec =
@@ -58,6 +79,12 @@ lower-spec =
     Inv-loop
     μ-loop
     loop-holds
+    mul-if1
+    slice-read-if1
+    mul-if1-2
+    shared-slice-read-if1
+    same-length
+    returns
     mul-values
     slice-read-values
     mul-values-2
@@ -68,5 +95,5 @@ lower-spec =
     add-i
     loop-less
     loop-again
-    same-length
-    returns)
+    same-length-2
+    returns-2)

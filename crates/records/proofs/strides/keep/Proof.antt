@@ -12,7 +12,7 @@ abbrev μ-loop : tie.MeasureT-loop
 μ-loop w₀ n values i₀ w i = n - i
 
 loop-holds : tie.Need-loop-holds Inv-loop μ-loop
-loop-holds c = keeping-none _ _ _ (c .pre .0)
+loop-holds c = keeping-none _ _ _
 
 mul-w : tie.Need-mul-w Inv-loop μ-loop
 mul-w c = omega arith

@@ -1,69 +1,75 @@
--- `drop_least` meets its contract: the least contributor is noted, then taken out; row 13 cannot come.
-use mathlib.Core.Path.{refl}
-use native.Mathlib.Omega.{arith}
-use lib.ListN.{length-set}
 use borrow.Author.Needs.{needs}
-use Rattle.calls.proofs.Known.{known}
-use Rattle.removal.proofs.reducing.Dropping.{drop-done, note-written}
 use Rattle.removal.proofs.reducing.drop_least.Statement.{statement}
 use Rattle.removal.proofs.reducing.drop_least.Tie as tie
+use Rattle.removal.proofs.reducing.drop_least.Reads as reads
+use Rattle.removal.proofs.reducing.drop_least.Lts as lts
+use Rattle.records.proofs.least_place.Reads as least-place-reads
+use Rattle.removal.proofs.removing.take_out.Reads as take-out-reads
+use Rattle.slices.proofs.copy.Reads as copy-reads
 
+-- src/reducing.rt:42:13
 slice-read-n : tie.Need-slice-read-n
-slice-read-n c = omega (arith, known (c .before .before .before .args .w .now) (c .before .before .before .pre .0))
+slice-read-n c = ?
 
+-- src/reducing.rt:43:9
 least-place-requires : tie.Need-least-place-requires
-least-place-requires c κs = omega (arith, known (c .before .before .before .before .args .w .now) (c .before .before .before .before .pre .0), c .before .before .before .before .pre .2)
+least-place-requires c κs = ?
 
-mul-log : tie.Need-mul-log
-mul-log c = omega (arith, known (c .before .before .before .before .before .args .w .now) (c .before .before .before .before .before .pre .0), c .least-place .ensures .0, c .before .before .before .before .before .pre .3)
+-- src/reducing.rt:44:23
+mul-t11 : tie.Need-mul-t11
+mul-t11 c = ?
 
-add-log : tie.Need-add-log
-add-log c = omega (arith, known (c .before .before .before .before .before .args .w .now) (c .before .before .before .before .before .pre .0), c .least-place .ensures .0, c .before .before .before .before .before .pre .3)
+-- src/reducing.rt:44:19
+add-t12 : tie.Need-add-t12
+add-t12 c = ?
 
-mul-log-2 : tie.Need-mul-log-2
-mul-log-2 c = omega (arith, known (c .before .before .before .before .before .args .w .now) (c .before .before .before .before .before .pre .0), c .least-place .ensures .0, c .before .before .before .before .before .pre .3)
+-- src/reducing.rt:44:17
+mul-t13 : tie.Need-mul-t13
+mul-t13 c = ?
 
-slice-read-log : tie.Need-slice-read-log
-slice-read-log c = omega (arith, known (c .before .before .before .before .before .before .args .w .now) (c .before .before .before .before .before .before .pre .0), c .before .least-place .ensures .0, c .before .before .before .before .before .before .pre .3)
+-- src/reducing.rt:44:17
+slice-read-t8 : tie.Need-slice-read-t8
+slice-read-t8 c = ?
 
-mul-log-3 : tie.Need-mul-log-3
-mul-log-3 c = search needs
+-- src/reducing.rt:44:42
+mul-t15 : tie.Need-mul-t15
+mul-t15 c = ?
 
-slice-write-log : tie.Need-slice-write-log
-slice-write-log c = search needs
+-- src/reducing.rt:44:37
+add-t16 : tie.Need-add-t16
+add-t16 c = ?
 
-mul-log-4 : tie.Need-mul-log-4
-mul-log-4 c = omega (arith, known (c .before .before .before .before .before .before .args .w .now) (c .before .before .before .before .before .before .pre .0), c .before .least-place .ensures .0, c .before .before .before .before .before .before .pre .3)
+-- src/reducing.rt:44:35
+mul-t17 : tie.Need-mul-t17
+mul-t17 c = ?
 
-add-log-2 : tie.Need-add-log-2
-add-log-2 c = omega (arith, known (c .before .before .before .before .before .before .args .w .now) (c .before .before .before .before .before .before .pre .0), c .before .least-place .ensures .0, c .before .before .before .before .before .before .pre .3)
+-- src/reducing.rt:44:35
+slice-read-t19 : tie.Need-slice-read-t19
+slice-read-t19 c = ?
 
-mul-log-5 : tie.Need-mul-log-5
-mul-log-5 c = omega (arith, known (c .before .before .before .before .before .before .args .w .now) (c .before .before .before .before .before .before .pre .0), c .before .least-place .ensures .0, c .before .before .before .before .before .before .pre .3)
+-- src/reducing.rt:45:10
+slice-aggregate-copy : tie.Need-slice-aggregate-copy
+slice-aggregate-copy c = search needs
 
-slice-read-log-2 : tie.Need-slice-read-log-2
-slice-read-log-2 c = omega (arith, known (c .before .before .before .before .before .before .before .args .w .now) (c .before .before .before .before .before .before .before .pre .0), c .before .before .least-place .ensures .0, c .before .before .before .before .before .before .before .pre .3)
+-- src/reducing.rt:45:5
+copy-requires : tie.Need-copy-requires
+copy-requires c κs = search needs
 
-add-log-3 : tie.Need-add-log-3
-add-log-3 c = search needs
-
-mul-log-6 : tie.Need-mul-log-6
-mul-log-6 c = search needs
-
-slice-write-log-2 : tie.Need-slice-write-log-2
-slice-write-log-2 c = simp length-set (omega (arith, known (c .before .before .before .before .before .before .before .args .w .now) (c .before .before .before .before .before .before .before .pre .0), c .before .before .least-place .ensures .0, c .before .before .before .before .before .before .before .pre .3))
-
+-- src/reducing.rt:46:5
 take-out-requires : tie.Need-take-out-requires
-take-out-requires c κs = ((c .before .before .before .before .before .before .before .before .pre .0), c .before .before .before .least-place .ensures .0)
+take-out-requires c κs = search needs
 
+-- src/reducing.rt:38:1
 same-length : tie.Need-same-length
 same-length c = search needs
 
+-- src/reducing.rt:38:1
 same-length-2 : tie.Need-same-length-2
-same-length-2 c = simp length-set
+same-length-2 c = search needs
 
+-- src/reducing.rt:38:1
 returns : tie.Need-returns
-returns c = (drop-done (c .before .before .before .before .before .before .before .before .before .before .before .args .w .now) _ _ _ (c .before .before .before .before .before .before .before .before .before .before .before .pre .0) (c .before .before .before .before .before .before .before .before .before .before .before .pre .1) refl (c .before .before .before .before .before .before .least-place .ensures .0) (c .before .before .before .before .before .before .least-place .ensures .1) (c .before .before .take-out .ensures .1), note-written (c .before .before .before .before .before .before .before .before .before .before .before .args .w .now) _ _ _ _ refl (c .before .before .before .before .before .before .least-place .ensures .1) (c .before .before .before .before .before .before .before .before .before .before .before .pre .3))
+returns c = ?
 
 pub drop-least-spec : {M : Type 1} → statement M
 drop-least-spec =
@@ -71,19 +77,16 @@ drop-least-spec =
     (tie.spec
     slice-read-n
     least-place-requires
-    mul-log
-    add-log
-    mul-log-2
-    slice-read-log
-    mul-log-3
-    slice-write-log
-    mul-log-4
-    add-log-2
-    mul-log-5
-    slice-read-log-2
-    add-log-3
-    mul-log-6
-    slice-write-log-2
+    mul-t11
+    add-t12
+    mul-t13
+    slice-read-t8
+    mul-t15
+    add-t16
+    mul-t17
+    slice-read-t19
+    slice-aggregate-copy
+    copy-requires
     take-out-requires
     same-length
     same-length-2
