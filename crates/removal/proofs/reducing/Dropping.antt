@@ -6,8 +6,10 @@ use mathlib.Core.List.{List, _∷_, _++_, append-assoc, append-nil, []}
 use native.Mathlib.Nat.{add-zero}
 use native.Mathlib.Numerals.{add-one}
 use native.Mathlib.Omega.{arith}
-use lib.ListN.{length, getD, take, drop, set}
-use lib.Seq.{take-at, drop-at, drop-drop, getD-drop, sets-eq}
+use lib.ListN.{length, getD}
+use lib.Seq.{getD-drop}
+use Rattle.slices.specs.Put.{put}
+use Rattle.slices.proofs.Put.{put-none, put-then}
 use Rattle.words.specs.Archive.{Row, Archive, trials}
 use Rattle.slices.specs.Choices.{pick}
 use Rattle.words.specs.Layout.{word, layout, read, read-row, behind}
@@ -42,21 +44,17 @@ drop-done w left n place p c en l is e =
     ∙ ap (λ b. pick b w (layout (removed (read w) (number-at w place)) ++ behind w)) none
     ∙ ap (λ (r : Row). layout (removed (read w) (r .trial .number)) ++ behind w) (is ∙ ap (λ i. least-row (rows-before w i)) en)
 
--- The note of that drop, written in two words.
-pub note-written : (w log : List ℕ) (n place at : ℕ) → n ≡ word w 0 → row-at w place ≡ least-row (rows-before w n) → at + 2 ≤ length log
-    → set (set log at (getD w (8 + 5 * place) 0)) (at + 1) (getD w (12 + 5 * place) 0) ≡ take at log ++ (note (read w) ++ drop (at + 2) log)
+-- The note of that drop.
+pub note-written : (w log : List ℕ) (n place at : ℕ) → n ≡ word w 0 → row-at w place ≡ least-row (rows-before w n)
+    → put log at (getD w (8 + 5 * place) 0 ∷ getD w (12 + 5 * place) 0 ∷ []) ≡ put log at (note (read w))
 unfolding note read row-at read-row
-note-written w log n place at en is room =
+note-written w log n place at en is =
     let same : row-at w place ≡ least-row (rows-before w (word w 0)) = is ∙ ap (λ i. least-row (rows-before w i)) en in
     let number : getD w (8 + 5 * place) 0 ≡ least-row (rows-before w (word w 0)) .trial .number =
     ap (λ i. getD w i 0) (sym (add-zero (8 + 5 * place))) ∙ sym (getD-drop (8 + 5 * place) w 0 0) ∙ ap (λ (r : Row). r .trial .number) same in
     let kept : getD w (12 + 5 * place) 0 ≡ least-row (rows-before w (word w 0)) .kept =
     ap (λ i. getD w i 0) (let s : 12 + 5 * place ≡ 8 + 5 * place + 4 = omega arith in s) ∙ sym (getD-drop (8 + 5 * place) w 4 0) ∙ ap (λ (r : Row). r .kept) same in
-    let least = least-row (rows-before w (word w 0)) in
-    ap₂ (λ a b. set (set log at a) (at + 1) b) number kept
-    ∙ ap (λ i. set (set log at (least .trial .number)) i (least .kept)) (add-one at)
-    ∙ sets-eq (least .trial .number ∷ least .kept ∷ []) log at room
-    ∙ append-assoc (take at log) (least .trial .number ∷ least .kept ∷ []) (drop (at + 2) log)
+    ap₂ (λ a b. put log at (a ∷ b ∷ [])) number kept
 
 -- One drop more, at the end.
 drops-more : (i : ℕ) (a : Archive) → after-drops (suc i) a ≡ dropped (after-drops i a)
@@ -81,7 +79,7 @@ length-notes (suc i) a =
 pub record Thinning (w₀ log₀ : List ℕ) (n : ℕ) (w log : List ℕ) (i : ℕ) : Type 0 where
   pub part : i ≤ n
   pub now-is : w ≡ layout (after-drops i (read w₀)) ++ behind w₀
-  pub noted : log ≡ notes i (read w₀) ++ drop (2 * i) log₀
+  pub noted : log ≡ put log₀ 0 (notes i (read w₀))
   pub sound : Sound (after-drops i (read w₀))
   pub counted : IsCounted (after-drops i (read w₀))
   pub left : length (after-drops i (read w₀) .rows) + i ≡ word w₀ 0
@@ -95,7 +93,7 @@ thinning-none w log n p c =
     record {
       part = omega arith;
       now-is = passed w p .laid;
-      noted = refl;
+      noted = sym (put-none log 0);
       sound = known w p .sound;
       counted = c;
       left = omega arith;
@@ -126,9 +124,9 @@ thinned {w₀} {log₀} {n} {w} {log} {i} h =
     }
 
 pub thinning-more : {w₀ log₀ : List ℕ} {n : ℕ} {w log : List ℕ} {i : ℕ} (w′ log′ : List ℕ) → Thinning w₀ log₀ n w log i → i < n → n ≤ word w₀ 0
-    → w′ ≡ layout (dropped (read w)) ++ behind w → log′ ≡ take (2 * i) log ++ (note (read w) ++ drop (2 * i + 2) log)
+    → w′ ≡ layout (dropped (read w)) ++ behind w → log′ ≡ put log (2 * i) (note (read w)) → 2 * n ≤ length log₀
     → length w′ ≡ length w → length log′ ≡ length log → Thinning w₀ log₀ n w′ log′ (i + 1)
-thinning-more {w₀} {log₀} {n} {w} {log} {i} w′ log′ h l most ew el lw ll =
+thinning-more {w₀} {log₀} {n} {w} {log} {i} w′ log′ h l most ew el fits lw ll =
     let a = after-drops i (read w₀) in
     let t = thinned h in
     let left : length (a .rows) + i ≡ word w₀ 0 = h .left in
@@ -137,21 +135,15 @@ thinning-more {w₀} {log₀} {n} {w} {log} {i} w′ log′ h l most ew el lw ll
     let count : length (a .rows) ≡ suc (length (dropped a .rows)) = keeps .count in
     let now-left : length (dropped a .rows) + (i + 1) ≡ word w₀ 0 = omega arith in
     let size : length (notes i (read w₀)) ≡ 2 * i = length-notes i (read w₀) in
-    let front : take (2 * i) log ≡ notes i (read w₀) = ap (take (2 * i)) (h .noted) ∙ take-at (notes i (read w₀)) (drop (2 * i) log₀) (2 * i) size in
-    let back : drop (2 * i + 2) log ≡ drop (2 * (i + 1)) log₀ =
-    sym (drop-drop 2 (2 * i) log)
-    ∙ ap (drop 2) (ap (drop (2 * i)) (h .noted) ∙ drop-at (notes i (read w₀)) (drop (2 * i) log₀) (2 * i) size)
-    ∙ drop-drop 2 (2 * i) log₀
-    ∙ ap (λ k. drop k log₀) (let s : 2 * i + 2 ≡ 2 * (i + 1) = omega arith in s) in
     record {
       part = omega arith;
       now-is = ew ∙ ap₂ (λ x y. layout (dropped x) ++ y) (t .holds) (t .rest) ∙ ap (λ x. layout x ++ behind w₀) (sym next);
       noted =
           el
-          ∙ ap₂ (λ x y. x ++ (note (read w) ++ y)) front back
-          ∙ ap (λ x. notes i (read w₀) ++ (note x ++ drop (2 * (i + 1)) log₀)) (t .holds)
-          ∙ sym (append-assoc (notes i (read w₀)) (note a) (drop (2 * (i + 1)) log₀))
-          ∙ ap (λ x. x ++ drop (2 * (i + 1)) log₀) (sym (ap (λ k. notes k (read w₀)) (add-one i) ∙ notes-more i (read w₀)));
+          ∙ ap₂ (λ x k. put x k (note (read w))) (h .noted) (let q : 2 * i ≡ 0 + length (notes i (read w₀)) = omega arith in q)
+          ∙ put-then log₀ 0 (notes i (read w₀)) (note (read w)) (omega arith)
+          ∙ ap (λ x. put log₀ 0 (notes i (read w₀) ++ note x)) (t .holds)
+          ∙ ap (put log₀ 0) (sym (ap (λ k. notes k (read w₀)) (add-one i) ∙ notes-more i (read w₀)));
       sound = subst Sound (sym next) (keeps .sound);
       counted = subst IsCounted (sym next) (keeps .counted);
       left = subst (λ (x : Archive). length (x .rows) + (i + 1) ≡ word w₀ 0) (sym next) now-left;
@@ -159,7 +151,7 @@ thinning-more {w₀} {log₀} {n} {w} {log} {i} w′ log′ h l most ew el lw ll
       log-long = ll ∙ h .log-long;
     }
 
-pub thinning-end : {w₀ log₀ : List ℕ} {n : ℕ} {w log : List ℕ} {i : ℕ} → Thinning w₀ log₀ n w log i → n ≤ i → (w ≡ layout (after-drops n (read w₀)) ++ behind w₀) × (log ≡ notes n (read w₀) ++ drop (2 * n) log₀)
+pub thinning-end : {w₀ log₀ : List ℕ} {n : ℕ} {w log : List ℕ} {i : ℕ} → Thinning w₀ log₀ n w log i → n ≤ i → (w ≡ layout (after-drops n (read w₀)) ++ behind w₀) × (log ≡ put log₀ 0 (notes n (read w₀)))
 thinning-end {w₀} {log₀} {n} {w} {log} {i} h l =
     let e : i ≡ n = (let part : i ≤ n = h .part in omega arith) in
-    (h .now-is ∙ ap (λ k. layout (after-drops k (read w₀)) ++ behind w₀) e, h .noted ∙ ap (λ k. notes k (read w₀) ++ drop (2 * k) log₀) e)
+    (h .now-is ∙ ap (λ k. layout (after-drops k (read w₀)) ++ behind w₀) e, h .noted ∙ ap (λ k. put log₀ 0 (notes k (read w₀))) e)

@@ -1,47 +1,45 @@
 -- The ways out of reduce.
-use Prim.Native.Nat.{ℕ, _-_, _*_}
-use mathlib.Core.Path.{_≡_, sym, ap, ap₂, _∙_}
+use Prim.Native.Nat.{ℕ, _-_}
+use mathlib.Core.Path.{_≡_, sym, ap, _∙_}
 use mathlib.Core.List.{List, _++_}
 use lib.ListN.{length, drop}
+use Rattle.slices.specs.Put.{put}
+use Rattle.slices.proofs.Put.{put-front}
+use Rattle.calls.specs.declared.Answer.{Answer}
 use Rattle.words.specs.Layout.{word, layout, read, behind}
 use Rattle.words.specs.Format.{archive-rows}
 use Rattle.calls.specs.Calls.{after-drops, notes, reduce-rows}
 use Rattle.calls.specs.Lent.{Outcome, Reduced, reduce}
 use Rattle.calls.proofs.Known.{count-rows}
 use Rattle.calls.proofs.Answers.{rows-refused, rows-passed, leaves-refused, leaves-done}
-use Rattle.removal.proofs.reducing.Dropping.{length-notes}
 
--- The ways out of `reduce`.
-refused-all : (o : Outcome) (w log : List ℕ) (r : ℕ) → o ≡ record { refusal = r; value = 0; words = w; log = log } → Reduced o (record { refusal = r; value = 0 }) w log
-refused-all o w log r e =
+refused-all : (o : Outcome) (w log : List ℕ) (r : ℕ) (answer : Answer) → o ≡ record { refusal = r; value = 0; words = w; log = log } → answer ≡ record { refusal = r; value = 0 } → Reduced o answer w log
+refused-all o w log r answer e is =
     record {
-      answered = ap (λ (x : Outcome). record { refusal = x .refusal; value = x .value }) (sym e);
+      answered = is ∙ ap (λ (x : Outcome). record { refusal = x .refusal; value = x .value }) (sym e);
       left = ap (λ (x : Outcome). x .words) (sym e);
       noted = ap (λ (x : Outcome). x .log) (sym e);
     }
 
-pub reduce-refused : (w log : List ℕ) (k r : ℕ) → r ≡ archive-rows w 0 → (r ≡ 0 → ⊥) → Reduced (reduce w k log) (record { refusal = r; value = 0 }) w log
+pub reduce-refused : (w log : List ℕ) (k r : ℕ) (answer : Answer) → r ≡ archive-rows w 0 → (r ≡ 0 → ⊥) → answer ≡ record { refusal = r; value = 0 } → Reduced (reduce w k log) answer w log
 unfolding reduce
-reduce-refused w log k r e f =
-    refused-all (reduce w k log) w log r (leaves-refused w log _ r _ _ _ (rows-refused w r (reduce-rows (read w) k (length log)) e f) f)
+reduce-refused w log k r answer e f =
+    refused-all (reduce w k log) w log r answer (leaves-refused w log _ r _ _ _ (rows-refused w r (reduce-rows (read w) k (length log)) e f) f)
 
-pub reduce-turned : (w log : List ℕ) (k r : ℕ) → archive-rows w 0 ≡ 0 → r ≡ reduce-rows (read w) k (length log) → (r ≡ 0 → ⊥) → Reduced (reduce w k log) (record { refusal = r; value = 0 }) w log
+pub reduce-turned : (w log : List ℕ) (k r : ℕ) (answer : Answer) → archive-rows w 0 ≡ 0 → r ≡ reduce-rows (read w) k (length log) → (r ≡ 0 → ⊥) → answer ≡ record { refusal = r; value = 0 } → Reduced (reduce w k log) answer w log
 unfolding reduce
-reduce-turned w log k r p e f =
-    refused-all (reduce w k log) w log r (leaves-refused w log _ r _ _ _ (rows-passed w _ p ∙ sym e) f)
+reduce-turned w log k r answer p e f =
+    refused-all (reduce w k log) w log r answer (leaves-refused w log _ r _ _ _ (rows-passed w _ p ∙ sym e) f)
 
-pub reduce-done : (w log w′ log′ : List ℕ) (k drops : ℕ) → archive-rows w 0 ≡ 0 → reduce-rows (read w) k (length log) ≡ 0 → drops ≡ word w 0 - k
-    → (w′ ≡ layout (after-drops drops (read w)) ++ behind w) × (log′ ≡ notes drops (read w) ++ drop (2 * drops) log)
-    → Reduced (reduce w k log) (record { refusal = 0; value = drops }) w′ log′
+pub reduce-done : (w log w′ log′ : List ℕ) (k drops : ℕ) (answer : Answer) → archive-rows w 0 ≡ 0 → reduce-rows (read w) k (length log) ≡ 0 → drops ≡ word w 0 - k
+    → (w′ ≡ layout (after-drops drops (read w)) ++ behind w) × (log′ ≡ put log 0 (notes drops (read w)))
+    → answer ≡ record { refusal = 0; value = drops } → Reduced (reduce w k log) answer w′ log′
 unfolding reduce
-reduce-done w log w′ log′ k drops p e d out =
+reduce-done w log w′ log′ k drops answer p e d out is =
     let many : drops ≡ length (read w .rows) - k = d ∙ ap (λ n. n - k) (sym (count-rows w)) in
     let o = leaves-done w log _ (length (read w .rows) - k) (layout (after-drops (length (read w .rows) - k) (read w)) ++ behind w) (notes (length (read w .rows) - k) (read w)) (rows-passed w _ p ∙ e) in
     record {
-      answered = ap (λ n. record { refusal = 0; value = n }) many ∙ sym (ap (λ (x : Outcome). record { refusal = x .refusal; value = x .value }) o);
+      answered = is ∙ ap (λ n. record { refusal = 0; value = n }) many ∙ sym (ap (λ (x : Outcome). record { refusal = x .refusal; value = x .value }) o);
       left = out .0 ∙ ap (λ n. layout (after-drops n (read w)) ++ behind w) many ∙ sym (ap (λ (x : Outcome). x .words) o);
-      noted =
-          out .1
-          ∙ ap₂ (λ n m. notes n (read w) ++ drop m log) many (sym (length-notes drops (read w)) ∙ ap (λ n. length (notes n (read w))) many)
-          ∙ sym (ap (λ (x : Outcome). x .log) o);
+      noted = out .1 ∙ put-front log (notes drops (read w)) ∙ ap (λ n. notes n (read w) ++ drop (length (notes n (read w))) log) many ∙ sym (ap (λ (x : Outcome). x .log) o);
     }

@@ -50,7 +50,7 @@ reference-of-requires : tie.Need-reference-of-requires
 reference-of-requires c κs = ap shape-allowed (c .shape-of .ensures) ∙ known (c .before .before .before .before .before .before .before .before .before .before .before .before .before .before .args .w .now) (c .before .before .before .before .before .before .before .before .before .before .before .before .before .before .pre .0) .shaped
 
 sweep-requires : tie.Need-sweep-requires
-sweep-requires c κs = 
+sweep-requires c κs =
     columns-are-ready _ (columns _ (c .before .before .before .before .before .before .before .before .before .load-points .ensures) (c .before .before .shape-of .ensures) (c .before .reference-of .ensures))
     (c .before .before .before .before .before .before .before .before .before .before .before .before .before .before .before .before .pre .0) (le-refl _) (c .before .before .before .before .before .before .before .before .before .before .before .before .before .before .before .before .pre .1)
 
@@ -58,7 +58,7 @@ same-length : tie.Need-same-length
 same-length c = search needs
 
 returns : tie.Need-returns
-returns c = 
+returns c =
     all-counted _ _ _ (columns _ (c .before .before .before .before .before .before .before .before .before .before .before .before .load-points .ensures) (c .before .before .before .before .before .shape-of .ensures) (c .before .before .before .before .reference-of .ensures))
     (c .before .before .sweep .ensures .0) (c .before .before .sweep .ensures .1)
 

@@ -46,7 +46,7 @@ reference-of-requires : tie.Need-reference-of-requires
 reference-of-requires c κs = ap shape-allowed (c .shape-of .ensures) ∙ known (c .before .before .before .before .before .before .before .before .before .before .before .before .before .args .w .now) (c .before .before .before .before .before .before .before .before .before .before .before .before .before .pre .0) .shaped
 
 update-requires : tie.Need-update-requires
-update-requires c κs = 
+update-requires c κs =
     let start = c .before .before .before .before .before .before .before .before .before .before .before .before .before .before .before in
     (columns-are-ready _ (columns _ (c .before .before .before .before .before .before .before .before .before .load-points .ensures) (c .before .before .shape-of .ensures) (c .before .reference-of .ensures)) (start .pre .0) (start .pre .1) (start .pre .2), start .pre .3)
 
@@ -54,7 +54,7 @@ same-length : tie.Need-same-length
 same-length c = search needs
 
 returns : tie.Need-returns
-returns c = 
+returns c =
     joints-counted _ _ _ _ (columns _ (c .before .before .before .before .before .before .before .before .before .before .before .before .load-points .ensures) (c .before .before .before .before .before .shape-of .ensures) (c .before .before .before .before .reference-of .ensures))
     (c .before .before .update .ensures .0) (c .before .before .update .ensures .1)
 

@@ -29,7 +29,7 @@ same-length-3 : tie.Need-same-length-3
 same-length-3 c = search needs
 
 returns : tie.Need-returns
-returns c = 
+returns c =
     points-loaded (c .before .before .before .before .before .before .before .before .before .before .before .before .before .before .before .before .before .args .w .now) _ _ _ _ _ _ _ _ _ (c .before .before .before .before .before .before .before .before .before .before .before .before .before .before .before .before .before .pre .0) refl (c .before .before .load3 .ensures .0) (c .before .before .load3 .ensures .2)
     (c .before .before .before .before .before .before .before .before .before .before .load .ensures .1) (c .before .before .before .before .before .before .load2 .ensures .1) (c .before .before .load3 .ensures .1)
 

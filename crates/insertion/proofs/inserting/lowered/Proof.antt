@@ -47,18 +47,18 @@ shared-slice-read-if1 : tie.Need-shared-slice-read-if1
 shared-slice-read-if1 c = omega (arith, known (c .before .before .before .before .before .before .before .before .before .before .before .before .before .before .args .w .now) (c .before .before .before .before .before .before .before .before .before .before .before .before .before .before .pre .0))
 
 add-if1 : tie.Need-add-if1
-add-if1 c = 
+add-if1 c =
     omega (
       arith,
       gain-fits (c .before .before .before .before .before .before .before .before .before .before .before .before .before .before .args .w .now) (as-row (c .before .before .before .before .before .before .before .before .before .before .before .before .before .before .args .row) .trial) _ (c .before .before .before .before .before .before .before .before .before .before .before .before .before .before .pre .0)
-      (gain-front (c .before .before .before .before .before .before .before .before .before .before .before .before .before .before .args .w .now) _ _ _ _ _ (c .before .before .before .before .before .before .before .before .before .before .point-of .ensures) (c .before .before .before .before .before .before .before .before .count-joints .ensures)),
+          (gain-front (c .before .before .before .before .before .before .before .before .before .before .before .before .before .before .args .w .now) _ _ _ _ _ (c .before .before .before .before .before .before .before .before .before .before .point-of .ensures) (c .before .before .before .before .before .before .before .before .count-joints .ensures)),
     )
 
 same-length : tie.Need-same-length
 same-length c = search needs
 
 returns : tie.Need-returns
-returns c = 
+returns c =
     lowered-over (c .before .before .before .before .before .before .before .before .before .before .before .before .before .before .before .args .w .now) _ _ _ _
     (gain-front (c .before .before .before .before .before .before .before .before .before .before .before .before .before .before .before .args .w .now) _ _ _ _ _ (c .before .before .before .before .before .before .before .before .before .before .before .point-of .ensures) (c .before .before .before .before .before .before .before .before .before .count-joints .ensures))
     (boxed (c .before .before)) (c .if1 .taken)
@@ -76,7 +76,7 @@ slice-aggregate-lower-2 : tie.Need-slice-aggregate-lower-2
 slice-aggregate-lower-2 c = sym (length-take-le _ _ (omega (arith, c .before .before .before .before .before .before .before .before .before .before .before .count-joints .kept, known (c .before .before .before .before .before .before .before .before .before .before .before .before .before .before .before .before .before .args .w .now) (c .before .before .before .before .before .before .before .before .before .before .before .before .before .before .before .before .before .pre .0))))
 
 lower-requires : tie.Need-lower-requires
-lower-requires c κs = 
+lower-requires c κs =
     length-take-le (getD (c .before .before .before .before .before .before .before .before .before .before .before .before .before .before .before .before .before .args .w .now) 0 0) (c .before .before .before .before .before .before .before .before .before .before .before .count-joints .last .1 .1 .1 .0) (omega (arith, c .before .before .before .before .before .before .before .before .before .before .before .count-joints .kept, known (c .before .before .before .before .before .before .before .before .before .before .before .before .before .before .before .before .before .args .w .now) (c .before .before .before .before .before .before .before .before .before .before .before .before .before .before .before .before .before .pre .0)))
     ∙ sym (length-take-le (getD (c .before .before .before .before .before .before .before .before .before .before .before .before .before .before .before .before .before .args .w .now) 0 0) (c .before .before .before .before .before .before .before .before .load .last .1 .1 .1 .1 .0) (omega (arith, c .before .before .before .before .before .before .before .before .load .kept, c .before .before .before .before .before .before .before .before .before .before .before .before .before .before .before .before .before .pre .2, known (c .before .before .before .before .before .before .before .before .before .before .before .before .before .before .before .before .before .args .w .now) (c .before .before .before .before .before .before .before .before .before .before .before .before .before .before .before .before .before .pre .0))))
 
@@ -84,7 +84,7 @@ same-length-2 : tie.Need-same-length-2
 same-length-2 c = search needs
 
 returns-2 : tie.Need-returns-2
-returns-2 c = 
+returns-2 c =
     let start = c .before .before .before .before .before .before .before .before .before .before .before .before .before .before .before .before .before .before .before .before in
     let lent = c .before .before .before .before .before .before .before .before .before .before .before .before .before .before in
     let gained = (gain-front (c .before .before .before .before .before .before .before .before .before .before .before .before .before .before .before .before .before .before .before .before .args .w .now) _ _ _ _ _ (c .before .before .before .before .before .before .before .before .before .before .before .before .before .before .before .before .point-of .ensures) (c .before .before .before .before .before .before .before .before .before .before .before .before .before .before .count-joints .ensures)) in

@@ -31,7 +31,7 @@ shared-slice-read-if1 : tie.Need-shared-slice-read-if1 Inv-loop μ-loop
 shared-slice-read-if1 c = search needs
 
 add-if1 : tie.Need-add-if1 Inv-loop μ-loop
-add-if1 c = 
+add-if1 c =
     let at-loop = c .before .before .before in
     omega (
       arith,

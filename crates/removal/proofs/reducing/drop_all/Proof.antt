@@ -27,7 +27,7 @@ loop-less : tie.Need-loop-less Inv-loop μ-loop
 loop-less c = omega (arith, c .before .before .before .before .before .before .before .loop-test .taken)
 
 loop-again : tie.Need-loop-again Inv-loop μ-loop
-loop-again c = thinning-more _ _ (c .before .before .before .before .before .before .before .before .loop .inv) (c .before .before .before .before .before .before .before .loop-test .taken) (c .before .before .before .before .before .before .before .before .before .before .before .pre .2) (c .before .before .before .before .drop-least .ensures .0) (c .before .before .before .before .drop-least .ensures .1) (c .before .before .before .before .drop-least .kept .0) (c .before .before .before .before .drop-least .kept .1 .0)
+loop-again c = thinning-more _ _ (c .before .before .before .before .before .before .before .before .loop .inv) (c .before .before .before .before .before .before .before .loop-test .taken) (c .before .before .before .before .before .before .before .before .before .before .before .pre .2) (c .before .before .before .before .drop-least .ensures .0) (c .before .before .before .before .drop-least .ensures .1) (c .before .before .before .before .before .before .before .before .before .before .before .pre .3) (c .before .before .before .before .drop-least .kept .0) (c .before .before .before .before .drop-least .kept .1 .0)
 
 same-length : tie.Need-same-length Inv-loop μ-loop
 same-length c = c .before .loop .inv .long

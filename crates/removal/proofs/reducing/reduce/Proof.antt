@@ -1,73 +1,63 @@
+-- `reduce` meets its contract: refused, turned down, or all the drops.
+use mathlib.Core.Path.{refl, sym, _∙_}
+use native.Mathlib.Omega.{arith}
+use Rattle.calls.proofs.Known.{known}
+use Rattle.removal.proofs.reducing.Rows.{reducible}
+use Rattle.removal.proofs.reducing.Outcomes.{reduce-refused, reduce-turned, reduce-done}
 use borrow.Author.Needs.{needs}
 use Rattle.removal.proofs.reducing.reduce.Statement.{statement}
 use Rattle.removal.proofs.reducing.reduce.Tie as tie
-use Rattle.removal.proofs.reducing.reduce.Reads as reads
-use Rattle.removal.proofs.reducing.reduce.Lts as lts
-use Rattle.calls.proofs.Answer.done.Reads as done-reads
-use Rattle.calls.proofs.Answer.refused.Reads as refused-reads
-use Rattle.removal.proofs.reducing.drop_all.Reads as drop-all-reads
-use Rattle.removal.proofs.reducing.reduce_rows.Reads as reduce-rows-reads
-use Rattle.words.proofs.refusal.Reads as refusal-reads
 
--- src/reducing.rt:65:9
 refusal-requires : tie.Need-refusal-requires
 refusal-requires c κs = search needs
 
--- src/reducing.rt:67:9
 refused-requires : tie.Need-refused-requires
 refused-requires c κs = search needs
 
--- src/reducing.rt:67:9
 same-length : tie.Need-same-length
 same-length c = search needs
 
--- src/reducing.rt:67:9
 returns : tie.Need-returns
-returns c = ?
+returns c = reduce-refused (c .before .before .before .before .before .before .args .w .now) _ _ _ _ (c .before .before .refusal .ensures) (c .before .if1 .taken) (c .refused .ensures)
 
--- src/reducing.rt:69:9
 reduce-rows-requires : tie.Need-reduce-rows-requires
-reduce-rows-requires c κs = search needs
+reduce-rows-requires c κs = (sym (c .before .before .refusal .ensures) ∙ c .before .if1 .left)
 
--- src/reducing.rt:71:9
 refused-requires-2 : tie.Need-refused-requires-2
 refused-requires-2 c κs = search needs
 
--- src/reducing.rt:71:9
 same-length-2 : tie.Need-same-length-2
 same-length-2 c = search needs
 
--- src/reducing.rt:71:9
 returns-2 : tie.Need-returns-2
-returns-2 c = ?
+returns-2 c =
+    reduce-turned (c .before .before .before .before .before .before .before .before .before .args .w .now) _ _ _ _ (sym (c .before .before .before .before .before .refusal .ensures) ∙ c .before .before .before .before .if1 .left) (c .before .before .reduce-rows .ensures)
+    (c .before .if2 .taken) (c .refused2 .ensures)
 
--- src/reducing.rt:73:17
 slice-read-drops : tie.Need-slice-read-drops
-slice-read-drops c = ?
+slice-read-drops c = omega (arith, known (c .before .before .before .before .before .before .before .before .before .args .w .now) (sym (c .before .before .before .before .before .refusal .ensures) ∙ c .before .before .before .before .if1 .left))
 
--- src/reducing.rt:73:17
 sub-drops : tie.Need-sub-drops
-sub-drops c = ?
+sub-drops c = reducible (c .before .before .before .before .before .before .before .before .before .args .w .now) _ _ (sym (c .before .before .reduce-rows .ensures) ∙ c .before .if2 .left) .above
 
--- src/reducing.rt:74:5
 drop-all-requires : tie.Need-drop-all-requires
-drop-all-requires c κs = ?
+drop-all-requires c κs =
+    let able = reducible (c .before .before .before .before .before .before .before .before .before .before .before .args .w .now) _ _ (sym (c .before .before .before .before .reduce-rows .ensures) ∙ c .before .before .before .if2 .left) in
+    ((sym (c .before .before .before .before .before .before .before .refusal .ensures) ∙ c .before .before .before .before .before .before .if1 .left), able .counted, omega (arith, able .above), able .room)
 
--- src/reducing.rt:75:5
 done-requires : tie.Need-done-requires
 done-requires c κs = search needs
 
--- src/reducing.rt:62:1
 same-length-3 : tie.Need-same-length-3
 same-length-3 c = search needs
 
--- src/reducing.rt:62:1
 same-length-4 : tie.Need-same-length-4
 same-length-4 c = search needs
 
--- src/reducing.rt:62:1
 returns-3 : tie.Need-returns-3
-returns-3 c = ?
+returns-3 c =
+    reduce-done (c .before .before .before .before .before .before .before .before .before .before .before .before .before .before .before .before .before .args .w .now) _ _ _ _ _ _ (sym (c .before .before .before .before .before .before .before .before .before .before .before .before .before .refusal .ensures) ∙ c .before .before .before .before .before .before .before .before .before .before .before .before .if1 .left)
+    (sym (c .before .before .before .before .before .before .before .before .before .before .reduce-rows .ensures) ∙ c .before .before .before .before .before .before .before .before .before .if2 .left) refl (c .before .before .before .before .before .drop-all .ensures) (c .done .ensures)
 
 pub reduce-spec : {M : Type 1} → statement M
 reduce-spec =

@@ -1,86 +1,100 @@
+-- `raised` meets its contract: row 13 by the total, or by a contribution, or the contributions with their joint counts.
+use Prim.Native.Nat.{_-_}
+use mathlib.Core.Path.{_≡_, refl, sym, ap, subst, _∙_}
+use native.Mathlib.Nat.{le-of-lt}
+use native.Mathlib.Omega.{arith}
+use lib.ListN.{getD}
+use lib.Seq.{length-take-le}
+use Rattle.hypervolume.specs.Cells.{box}
+use Rattle.sweep.specs.Points.{Small}
+use Rattle.words.specs.Archive.{Row, point, reference}
+use Rattle.words.specs.Format.{shape-allowed}
+use Rattle.words.specs.Layout.{read}
+use Rattle.calls.specs.Calls.{box-of}
+use Rattle.calls.proofs.Known.{known}
+use Rattle.ask.proofs.CountedAmounts.{front-of}
+use Rattle.removal.proofs.removing.Raising.{point-small, loss-counted, kept-counted, shares-counted, kept-each, joints-each, box-each, limit-fits, raised-over, raised-judged}
 use borrow.Author.Needs.{needs}
 use Rattle.removal.proofs.removing.raised.Statement.{statement}
 use Rattle.removal.proofs.removing.raised.Tie as tie
-use Rattle.removal.proofs.removing.raised.Reads as reads
-use Rattle.removal.proofs.removing.raised.Lts as lts
-use Rattle.ask.proofs.count_joints.Reads as count-joints-reads
-use Rattle.ask.proofs.point_of.Reads as point-of-reads
-use Rattle.records.proofs.raise.Reads as raise-reads
-use Rattle.records.proofs.load.Reads as load-reads
-use Rattle.words.proofs.box_of.Reads as box-of-reads
-use Rattle.words.proofs.shape_of.Reads as shape-of-reads
 
--- src/removing.rt:33:13
+boxed : (c : tie.After-box-of) → c .box-of .result ≡ box-of (read (c .before .before .before .before .before .before .before .before .before .before .before .before .before .before .before .before .before .args .w .now))
+unfolding read
+boxed c = c .box-of .ensures ∙ ap (λ s. box (reference s)) (c .before .shape-of .ensures)
+
 shared-slice-read-n : tie.Need-shared-slice-read-n
-shared-slice-read-n c = ?
+shared-slice-read-n c = omega (arith, known (c .before .before .before .args .w .now) (c .before .before .before .pre .0))
 
--- src/removing.rt:35:35
 point-of-requires : tie.Need-point-of-requires
-point-of-requires c κs = ?
+point-of-requires c κs = point-small (c .before .before .before .args .w .now) _ _ (c .before .before .before .pre .0) (c .before .before .before .pre .1) (c .before .before .before .pre .2)
 
--- src/removing.rt:35:50
 slice-aggregate-count-joints : tie.Need-slice-aggregate-count-joints
 slice-aggregate-count-joints c = search needs
 
--- src/removing.rt:35:9
 count-joints-requires : tie.Need-count-joints-requires
-count-joints-requires c κs = ?
+count-joints-requires c κs = (c .before .before .before .before .before .pre .0, le-of-lt (c .before .before .before .before .before .pre .1), omega arith, subst (λ q. Small q) (sym (c .before .point-of .ensures)) (point-small (c .before .before .before .before .before .args .w .now) _ _ (c .before .before .before .before .before .pre .0) (c .before .before .before .before .before .pre .1) (c .before .before .before .before .before .pre .2)))
 
--- src/removing.rt:36:5
 load-requires : tie.Need-load-requires
-load-requires c κs = ?
+load-requires c κs = omega (arith, known (c .before .before .before .before .before .before .before .before .args .w .now) (c .before .before .before .before .before .before .before .before .pre .0), c .before .before .before .before .before .before .before .before .pre .3, c .before .before .before .before .before .before .before .before .pre .1)
 
--- src/removing.rt:37:13
 sub-m : tie.Need-sub-m
 sub-m c = search needs
 
--- src/removing.rt:38:8
 shared-slice-read-if1 : tie.Need-shared-slice-read-if1
-shared-slice-read-if1 c = ?
+shared-slice-read-if1 c = omega (arith, known (c .before .before .before .before .before .before .before .before .before .before .before .before .args .w .now) (c .before .before .before .before .before .before .before .before .before .before .before .before .pre .0))
 
--- src/removing.rt:39:9
 same-length : tie.Need-same-length
 same-length c = search needs
 
--- src/removing.rt:39:9
 returns : tie.Need-returns
-returns c = ?
+returns c =
+    raised-over (c .before .before .before .before .before .before .before .before .before .before .before .before .before .args .w .now) _ _ _ (c .before .before .before .before .before .before .before .before .before .before .before .before .before .pre .0) (c .before .before .before .before .before .before .before .before .before .before .before .before .before .pre .1)
+    (loss-counted (c .before .before .before .before .before .before .before .before .before .before .before .before .before .args .w .now) _ (c .before .before .before .before .before .before .before .before .before .before .before .before .before .pre .0) (c .before .before .before .before .before .before .before .before .before .before .before .before .before .pre .1) _ _ _ _ (c .before .before .before .before .before .before .before .before .before .point-of .ensures ∙ ap (λ (r : Row). point (r .trial)) (c .before .before .before .before .before .before .before .before .before .before .before .before .before .pre .2)) (c .before .before .before .before .before .before .before .count-joints .ensures)) (c .if1 .taken)
 
--- src/removing.rt:44:22
 slice-relend-prefix-raise : tie.Need-slice-relend-prefix-raise
-slice-relend-prefix-raise c = ?
+slice-relend-prefix-raise c = omega (arith, c .before .before .before .before .load .kept, c .before .before .before .before .before .before .before .before .before .before .before .before .before .pre .3, known (c .before .before .before .before .before .before .before .before .before .before .before .before .before .args .w .now) (c .before .before .before .before .before .before .before .before .before .before .before .before .before .pre .0))
 
--- src/removing.rt:44:22
 slice-aggregate-raise : tie.Need-slice-aggregate-raise
-slice-aggregate-raise c = ?
+slice-aggregate-raise c = sym (length-take-le _ _ (omega (arith, c .before .before .before .before .before .load .kept, c .before .before .before .before .before .before .before .before .before .before .before .before .before .before .pre .3, known (c .before .before .before .before .before .before .before .before .before .before .before .before .before .before .args .w .now) (c .before .before .before .before .before .before .before .before .before .before .before .before .before .before .pre .0))))
 
--- src/removing.rt:44:38
 array-share-prefix-joints : tie.Need-array-share-prefix-joints
-array-share-prefix-joints c = ?
+array-share-prefix-joints c = omega (arith, c .before .before .before .before .before .before .before .before .count-joints .kept, known (c .before .before .before .before .before .before .before .before .before .before .before .before .before .before .args .w .now) (c .before .before .before .before .before .before .before .before .before .before .before .before .before .before .pre .0))
 
--- src/removing.rt:44:38
 slice-aggregate-raise-2 : tie.Need-slice-aggregate-raise-2
-slice-aggregate-raise-2 c = ?
+slice-aggregate-raise-2 c = sym (length-take-le _ _ (omega (arith, c .before .before .before .before .before .before .before .before .before .count-joints .kept, known (c .before .before .before .before .before .before .before .before .before .before .before .before .before .before .before .args .w .now) (c .before .before .before .before .before .before .before .before .before .before .before .before .before .before .before .pre .0))))
 
--- src/removing.rt:44:59
 shape-of-requires : tie.Need-shape-of-requires
-shape-of-requires c κs = ?
+shape-of-requires c κs = omega (arith, known (c .before .before .before .before .before .before .before .before .before .before .before .before .before .before .before .args .w .now) (c .before .before .before .before .before .before .before .before .before .before .before .before .before .before .before .pre .0))
 
--- src/removing.rt:44:52
 box-of-requires : tie.Need-box-of-requires
-box-of-requires c κs = ?
+box-of-requires c κs = ap shape-allowed (c .shape-of .ensures) ∙ known (c .before .before .before .before .before .before .before .before .before .before .before .before .before .before .before .before .args .w .now) (c .before .before .before .before .before .before .before .before .before .before .before .before .before .before .before .before .pre .0) .shaped
 
--- src/removing.rt:44:9
 raise-requires : tie.Need-raise-requires
-raise-requires c κs = ?
+raise-requires c κs =
+    let start = c .before .before .before .before .before .before .before .before .before .before .before .before .before .before .before .before .before in (
+      (
+        length-take-le (getD (start .args .w .now) 0 0 - 1) (c .before .before .before .before .before .before .before .before .before .before .before .count-joints .last .1 .1 .1 .0) (omega (arith, c .before .before .before .before .before .before .before .before .before .before .before .count-joints .kept, known (c .before .before .before .before .before .before .before .before .before .before .before .before .before .before .before .before .before .args .w .now) (c .before .before .before .before .before .before .before .before .before .before .before .before .before .before .before .before .before .pre .0)))
+            ∙ sym (length-take-le (getD (start .args .w .now) 0 0 - 1) (c .before .before .before .before .before .before .before .before .load .last .1 .1 .1 .1 .0) (omega (arith, c .before .before .before .before .before .before .before .before .load .kept, c .before .before .before .before .before .before .before .before .before .before .before .before .before .before .before .before .before .pre .3, known (c .before .before .before .before .before .before .before .before .before .before .before .before .before .before .before .before .before .args .w .now) (c .before .before .before .before .before .before .before .before .before .before .before .before .before .before .before .before .before .pre .0)))),
+        limit-fits (start .args .w .now) _ (start .pre .0) (boxed c),
+      ),
+      (
+        box-each _ _ _ _ (kept-counted (c .before .before .before .before .before .before .before .before .before .before .before .before .before .before .before .before .before .args .w .now) _ (c .before .before .before .before .before .before .before .before .before .before .before .before .before .before .before .before .before .pre .0) (c .before .before .before .before .before .before .before .before .before .before .before .before .before .before .before .before .before .pre .1) _ _ _ _ refl (c .before .before .before .before .before .before .before .before .load .ensures .0) (c .before .before .before .before .before .before .before .before .load .ensures .1)) (boxed c) (kept-each (start .args .w .now) _ (start .pre .0)),
+        box-each _ _ _ _ (shares-counted (c .before .before .before .before .before .before .before .before .before .before .before .before .before .before .before .before .before .args .w .now) _ (c .before .before .before .before .before .before .before .before .before .before .before .before .before .before .before .before .before .pre .0) (c .before .before .before .before .before .before .before .before .before .before .before .before .before .before .before .before .before .pre .1) _ _ _ _ _ (c .before .before .before .before .before .before .before .before .before .before .before .before .before .point-of .ensures ∙ ap (λ (r : Row). point (r .trial)) (c .before .before .before .before .before .before .before .before .before .before .before .before .before .before .before .before .before .pre .2)) refl (c .before .before .before .before .before .before .before .before .before .before .before .count-joints .ensures)) (boxed c) (joints-each (start .args .w .now) _),
+      ),
+    )
 
--- src/removing.rt:29:1
 same-length-2 : tie.Need-same-length-2
 same-length-2 c = search needs
 
--- src/removing.rt:29:1
 returns-2 : tie.Need-returns-2
-returns-2 c = ?
+returns-2 c =
+    let start = c .before .before .before .before .before .before .before .before .before .before .before .before .before .before .before .before .before .before .before .before in
+    raised-judged (start .args .w .now) _ _ _ (start .pre .0) (start .pre .1)
+    (loss-counted (c .before .before .before .before .before .before .before .before .before .before .before .before .before .before .before .before .before .before .before .before .args .w .now) _ (c .before .before .before .before .before .before .before .before .before .before .before .before .before .before .before .before .before .before .before .before .pre .0) (c .before .before .before .before .before .before .before .before .before .before .before .before .before .before .before .before .before .before .before .before .pre .1) _ _ _ _ (c .before .before .before .before .before .before .before .before .before .before .before .before .before .before .before .before .point-of .ensures ∙ ap (λ (r : Row). point (r .trial)) (c .before .before .before .before .before .before .before .before .before .before .before .before .before .before .before .before .before .before .before .before .pre .2)) (c .before .before .before .before .before .before .before .before .before .before .before .before .before .before .count-joints .ensures)) _ _ _ _ _ (c .before .before .before .before .before .before .before .if1 .left) (boxed (c .before .before .before))
+    (kept-counted (c .before .before .before .before .before .before .before .before .before .before .before .before .before .before .before .before .before .before .before .before .args .w .now) _ (c .before .before .before .before .before .before .before .before .before .before .before .before .before .before .before .before .before .before .before .before .pre .0) (c .before .before .before .before .before .before .before .before .before .before .before .before .before .before .before .before .before .before .before .before .pre .1) _ _ _ _ refl (c .before .before .before .before .before .before .before .before .before .before .before .load .ensures .0) (c .before .before .before .before .before .before .before .before .before .before .before .load .ensures .1))
+    (shares-counted (c .before .before .before .before .before .before .before .before .before .before .before .before .before .before .before .before .before .before .before .before .args .w .now) _ (c .before .before .before .before .before .before .before .before .before .before .before .before .before .before .before .before .before .before .before .before .pre .0) (c .before .before .before .before .before .before .before .before .before .before .before .before .before .before .before .before .before .before .before .before .pre .1) _ _ _ _ _ (c .before .before .before .before .before .before .before .before .before .before .before .before .before .before .before .before .point-of .ensures ∙ ap (λ (r : Row). point (r .trial)) (c .before .before .before .before .before .before .before .before .before .before .before .before .before .before .before .before .before .before .before .before .pre .2)) refl (c .before .before .before .before .before .before .before .before .before .before .before .before .before .before .count-joints .ensures)) (c .before .before .raise .ensures)
+    (front-of _ (c .before .before .before .before .before .before .before .before .before .before .before .load .last .1 .1 .1 .1 .0) (getD (start .args .w .now) 0 0 - 1) _ (c .before .before .raise .kept .0)
+    (omega (arith, c .before .before .before .before .before .before .before .before .before .before .before .load .kept, c .before .before .before .before .before .before .before .before .before .before .before .before .before .before .before .before .before .before .before .before .pre .3, known (c .before .before .before .before .before .before .before .before .before .before .before .before .before .before .before .before .before .before .before .before .args .w .now) (c .before .before .before .before .before .before .before .before .before .before .before .before .before .before .before .before .before .before .before .before .pre .0))) refl)
 
 pub raised-spec : {M : Type 1} → statement M
 raised-spec =
