@@ -11,12 +11,12 @@ use lib.ListN.{length, take, drop, replicate, length-replicate, replicate-append
 use lib.Seq.{drop-at}
 use Rattle.hypervolume.specs.Cells.{box}
 use Rattle.words.specs.Archive.{Row, Shape, reference}
-use Rattle.words.specs.Layout.{word, read, read-shape, extent, layout, header, records}
+use Rattle.words.specs.Layout.{word, read, read-shape, extent, layout, header, records, header-words}
 use Rattle.words.specs.Format.{guard, shape-allowed, archive-rows}
-use Rattle.words.specs.Places.{header-words}
 use Rattle.words.proofs.Passed.{Passed, Sound, passed, passes-again, still-refused, box-bound}
 use Rattle.archive.specs.Calls.{empty}
 use Rattle.archive.specs.Lent.{Outcome, leaves, answer, start, start-rows, least-answer}
+use Rattle.slices.specs.Put.{put}
 
 pub guard-yes : (t : Bool) (n rest : ℕ) → t ≡ true → guard t n rest ≡ n
 unfolding guard
@@ -83,9 +83,9 @@ start-short w s t end e f g l =
 
 pub start-done : (w w₁ w₂ : List ℕ) (s : Shape) (t : Bool) (end : ℕ) → t ≡ shape-allowed s → t ≡ true → end ≡ 8 + 5 * s .capacity → end ≤ length w
     → w₁ ≡ take 0 w ++ (replicate end 0 ++ drop (0 + end) w)
-    → w₂ ≡ header-words 0 s 0 ++ drop 8 w₁
+    → w₂ ≡ put w₁ 0 (header-words 0 s 0)
     → (_≡_ {A = ℕ} 0 (start w s .refusal)) × (w₂ ≡ start w s .words)
-unfolding start start-rows not extent layout header records empty
+unfolding start start-rows not extent layout header records empty put
 start-done w w₁ w₂ s t end e f g l e₁ e₂ =
     let row : start-rows w s ≡ 0 =
     guard-no (not (shape-allowed s)) 4 _ (ap not (sym e ∙ f))

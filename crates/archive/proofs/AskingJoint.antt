@@ -1,5 +1,5 @@
 -- Joint counts of a record with the others, by places among all records.
-use Prim.Native.Nat.{ℕ, zero, suc, _-_, _≤_, _<_, zero-le}
+use Prim.Native.Nat.{ℕ, zero, suc, _-_, _≤_, _<_}
 use mathlib.Core.Path.{_≡_, refl, sym, ap, ap₂, _∙_}
 use mathlib.Core.List.{List, _∷_, map, []}
 use native.Mathlib.Omega.{arith}
@@ -11,7 +11,7 @@ use Rattle.words.specs.Archive.{Row, point, trials, points}
 use Rattle.words.specs.Layout.{word, read}
 use Rattle.words.specs.Format.{archive-rows}
 use Rattle.words.specs.Places.{row-at}
-use Rattle.words.proofs.Passed.{passed, passed-row}
+use Rattle.words.proofs.Passed.{passed, passed-row, coordinates-small}
 use Rattle.archive.specs.Calls.{reference-of, held-points, joint-of, row-of}
 use Rattle.archive.specs.Columns.{leave-out}
 use Rattle.archive.specs.Amounts.{CountedJoints}
@@ -71,13 +71,7 @@ joints-at r u rows j d l = at-place _ rows j d l
 -- No coordinate of a held trial is above 1,048,576.
 pub held-small : (w : List ℕ) (i : ℕ) → archive-rows w 0 ≡ 0 → i < word w 0 → Small (point (row-at w i .trial))
 unfolding row-at
-held-small w i p l zero =
-    let r = passed-row w (passed w p) i l in let s = passed w p .bounds in omega arith
-held-small w i p l (suc zero) =
-    let r = passed-row w (passed w p) i l in let s = passed w p .bounds in omega arith
-held-small w i p l (suc (suc zero)) =
-    let r = passed-row w (passed w p) i l in let s = passed w p .bounds in omega arith
-held-small w i p l (suc (suc (suc k))) = zero-le
+held-small w i p l = coordinates-small (read-shape w) (row-at w i .trial) (passed w p .bounds) (passed-row w (passed w p) i l .coordinates)
 
 -- The trials at two places, and the counts with the first of them over the others.
 module _ (w : List ℕ) (i k : ℕ) (p : archive-rows w 0 ≡ 0) (li : i < word w 0) (lk : k < word w 0) where

@@ -5,7 +5,7 @@ use mathlib.Core.Bool.{true}
 use mathlib.Core.List.{List, _∷_, _++_, []}
 use native.Mathlib.Decide.{decLt}
 use native.Mathlib.Omega.{arith}
-use lib.ListN.{length, getD, take, drop, length-append, length-take, length-drop}
+use lib.ListN.{length, getD, take, drop, length-append, length-take, length-drop, List·getD-append}
 use lib.Seq.{take-at}
 use Rattle.slices.proofs.Choices.{both-true, both-intro}
 use Rattle.hypervolume.specs.Counts.{total, contributions, gain, joints}
@@ -15,7 +15,7 @@ use Rattle.words.specs.Archive.{Trial, Row, Shape, point, reference, trials, po
 use Rattle.words.specs.Layout.{record-words, read-row, read, read-shape, word}
 use Rattle.words.specs.Format.{archive-rows, row-allowed, rows-allowed, ordered, distinct}
 use Rattle.words.specs.Places.{rows-before}
-use Rattle.words.proofs.Passed.{passed, ShapeBounds, RowBounds, row-bounds}
+use Rattle.words.proofs.Passed.{passed, ShapeBounds, RowBounds, row-bounds, coordinates-small}
 use Rattle.archive.specs.Calls.{others}
 use Rattle.archive.specs.Amounts.{CountedAll, CountedJoints}
 use Rattle.archive.specs.Columns.{field-of, column, leave-out}
@@ -36,10 +36,8 @@ Low k r = field-of k r ≤ 1048576
 
 low-fields : (s : Shape) (r : Row) (k : ℕ) → ShapeBounds s → RowBounds s r → k < 3 → Low (suc k) r
 unfolding field-of record-words
-low-fields s r zero h b l = omega arith
-low-fields s r (suc zero) h b l = omega arith
-low-fields s r (suc (suc zero)) h b l = omega arith
-low-fields s r (suc (suc (suc k))) h b l = absurd (let no′ : ⊥ = omega arith in no′)
+low-fields s r k h b l =
+    rw (List·getD-append (point (r .trial)) (r .kept ∷ []) 0 k l) (coordinates-small s (r .trial) h (b .coordinates) k)
 
 column-small : (s : Shape) (rows : List Row) (k : ℕ) → ShapeBounds s → rows-allowed s rows ≡ true → k < 3 → Small (column (suc k) rows)
 unfolding column rows-allowed
@@ -91,10 +89,7 @@ left-fewer rows k =
     omega arith
 
 pub reference-small : (s : Shape) → ShapeBounds s → Small (reference s)
-reference-small s h zero = omega arith
-reference-small s h (suc zero) = omega arith
-reference-small s h (suc (suc zero)) = omega arith
-reference-small s h (suc (suc (suc k))) = zero-le
+reference-small s h = h .reference-high
 
 -- What the sweep asks, of the records but one.
 pub columns-ready : (w out : List ℕ) (k : ℕ) → archive-rows w 0 ≡ 0 → k ≤ word w 0 → 512 ≤ length out → (R : List Row) → R ≡ leave-out k (rows-before w (word w 0)) → Ready (column 1 R) (column 2 R) (column 3 R) (reference (read-shape w)) out

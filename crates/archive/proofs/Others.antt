@@ -11,7 +11,7 @@ use Rattle.slices.specs.Choices.{pick, either}
 use Rattle.slices.proofs.Choices.{both-true}
 use Rattle.words.specs.Archive.{Trial, Row, trials}
 use Rattle.words.specs.Format.{held, distinct}
-use Rattle.words.proofs.Lists.{held-at}
+use Rattle.words.proofs.Held.{held-at}
 use Rattle.archive.specs.Calls.{row-of, others}
 use Rattle.archive.specs.Columns.{leave-out}
 

@@ -17,7 +17,7 @@ use Rattle.words.specs.Format.{guard, archive-rows, held}
 use Rattle.words.specs.Places.{row-at, rows-before}
 use Rattle.words.proofs.Reading.{read-layout, behind-layout}
 use Rattle.words.proofs.Passed.{Sound, passed, sound-passes}
-use Rattle.words.proofs.Lists.{held-at}
+use Rattle.words.proofs.Held.{held-at}
 use Rattle.archive.specs.Calls.{held-trials, least-row, removed, remove-overruns, audited, dropped, note, after-drops, notes, reduce-rows}
 use Rattle.archive.specs.Counted.{IsCounted}
 use Rattle.archive.specs.Lent.{Outcome, Reduced, reduce}

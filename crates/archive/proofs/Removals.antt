@@ -16,8 +16,8 @@ use Rattle.words.specs.Archive.{Trial, Row, Shape, Archive, point, reference}
 use Rattle.words.specs.Layout.{records, layout, read, read-shape, word, behind, record-words}
 use Rattle.words.specs.Format.{guard, archive-rows, row-allowed, rows-allowed}
 use Rattle.words.specs.Places.{rows-before, row-at, Found}
-use Rattle.words.proofs.Passed.{passed, row-bounds, passed-row, shape-bounds}
-use Rattle.words.proofs.Places.{find-held}
+use Rattle.words.proofs.Passed.{passed, row-bounds, passed-row, coordinates-small}
+use Rattle.words.proofs.rows.SearchLaws.{find-held}
 use Rattle.archive.specs.declared.amounts.Moved.{Moved}
 use Rattle.archive.specs.Calls.{reference-of, held-points, box-of, insert-gain, joint-with, row-of, others, without, removal-loss, raised, removed, exceeds, remove-overruns, remove-rows}
 use Rattle.archive.specs.Lent.{Outcome, remove}
@@ -101,16 +101,8 @@ joints-each w k = shares-each (without (read w) (number-at w k)) (row-at w k .tr
 -- A record's point is small.
 pub point-small : (w : List ℕ) (k : ℕ) (row : Row) → archive-rows w 0 ≡ 0 → k < word w 0 → row ≡ row-at w k → Small (point (row .trial))
 unfolding row-at
-point-small w k row p l e zero =
-    let s = shape-bounds (read-shape w) (known w p .shaped) in
-    rw e (omega (arith, s, passed-row w (passed w p) k l))
-point-small w k row p l e (suc zero) =
-    let s = shape-bounds (read-shape w) (known w p .shaped) in
-    rw e (omega (arith, s, passed-row w (passed w p) k l))
-point-small w k row p l e (suc (suc zero)) =
-    let s = shape-bounds (read-shape w) (known w p .shaped) in
-    rw e (omega (arith, s, passed-row w (passed w p) k l))
-point-small w k row p l e (suc (suc (suc i))) = zero-le
+point-small w k row p l e =
+    rw e (coordinates-small (read-shape w) (row-at w k .trial) (passed w p .bounds) (passed-row w (passed w p) k l .coordinates))
 
 -- The three ways out of `raised`.
 module _ (w : List ℕ) (k : ℕ) (after : List ℕ) (r : ℕ) (p : archive-rows w 0 ≡ 0) (l : k < word w 0) (lost : r ≡ removal-loss (read w) (number-at w k)) where

@@ -1,15 +1,15 @@
 -- Insertion and removal, from the counted amounts to the words left: what the steps of the code come to.
-use Prim.Native.Nat.{ℕ, zero, suc, _+_, _-_, _*_, _≤_, _<_, zero-le}
+use Prim.Native.Nat.{ℕ, suc, _+_, _-_, _*_, _≤_, _<_}
 use mathlib.Core.Path.{_≡_, refl, sym, ap, ap₂, _∙_}
 use mathlib.Core.Bool.{Bool, true, false, not}
 use mathlib.Core.List.{List, _++_, map, []}
 use native.Mathlib.Omega.{arith}
 use lib.Dec.{ltb, eqb}
-use borrow.Author.Tests.{lt-ltb, le-ltb, eq-eqb, ne-eqb, not-true, not-false, eqb-false, leb-true, ltb-false}
+use borrow.Author.Tests.{lt-ltb, le-ltb, eq-eqb, ne-eqb, not-true, not-false, eqb-false, ltb-false}
 use lib.ListN.{length, take, drop, set}
 use lib.Seq.{take-at, length-take-le}
 use Rattle.hypervolume.specs.Counts.{joints}
-use Rattle.slices.proofs.Choices.{both-true, either-false}
+use Rattle.slices.proofs.Choices.{either-false}
 use Rattle.hypervolume.proofs.Counting.{gain-le-box}
 use Rattle.sweep.specs.Points.{Small}
 use Rattle.words.specs.Archive.{Trial, Row, Archive, point, reference, trials, points}
@@ -17,7 +17,7 @@ use Rattle.slices.specs.Choices.{pick, either}
 use Rattle.words.specs.Layout.{records, layout, read, read-shape, word, behind}
 use Rattle.words.specs.Format.{guard, archive-rows, number-allowed, coordinates-allowed, held}
 use Rattle.words.specs.Places.{rows-before}
-use Rattle.words.proofs.Passed.{passed, shape-bounds}
+use Rattle.words.proofs.Passed.{passed, shape-bounds, coordinates-small}
 use Rattle.archive.specs.declared.amounts.Moved.{Moved}
 use Rattle.archive.specs.Calls.{reference-of, held-points, held-trials, box-of, insert-gain, falls-below, place, lowered, insert-overruns, admission-rows, insert-rows, inserted}
 use Rattle.archive.specs.Lent.{Outcome, insert}
@@ -144,17 +144,7 @@ module _ (w : List ℕ) (t : Trial) (after : List ℕ) (r cells : ℕ) (gained :
 
 -- Coordinates that are allowed are at most 1,048,576.
 pub allowed-small : (w : List ℕ) (t : Trial) → archive-rows w 0 ≡ 0 → coordinates-allowed (read w .shape) t ≡ true → Small (point t)
-unfolding coordinates-allowed
-allowed-small w t p e zero =
-    let s = shape-bounds (read w .shape) (known w p .sound .shaped) in
-    omega (arith, s, leb-true (t .x) (read w .shape .rx) (both-true _ _ e .0))
-allowed-small w t p e (suc zero) =
-    let s = shape-bounds (read w .shape) (known w p .sound .shaped) in
-    omega (arith, s, leb-true (t .y) (read w .shape .ry) (both-true _ _ (both-true _ _ e .1) .0))
-allowed-small w t p e (suc (suc zero)) =
-    let s = shape-bounds (read w .shape) (known w p .sound .shaped) in
-    omega (arith, s, leb-true (t .z) (read w .shape .rz) (both-true _ _ (both-true _ _ e .1) .1))
-allowed-small w t p e (suc (suc (suc k))) = zero-le
+allowed-small w t p e = coordinates-small (read w .shape) t (shape-bounds (read w .shape) (known w p .sound .shaped)) e
 
 -- An insertion's columns, by the count in the words.
 pub kept-front : (w kept rest : List ℕ) (m : ℕ) → m ≡ length (leave-out (word w 0) (rows-before w (word w 0))) → kept ≡ column 4 (leave-out (word w 0) (rows-before w (word w 0))) ++ rest → take (word w 0) kept ≡ column 4 (read w .rows)

@@ -1,22 +1,22 @@
 -- What words that pass rows 1 to 3 are: the layout of a sound archive with the words behind it. And back: the
 -- layout of a sound archive passes, whatever lies behind it.
-use Prim.Native.Nat.{ℕ, zero, suc, _+_, _-_, _*_, _^_, _≤_, _<_}
+use Prim.Native.Nat.{ℕ, zero, suc, _+_, _-_, _*_, _^_, _≤_, _<_, zero-le}
 use mathlib.Core.Path.{_≡_, refl, sym, ap, _∙_, subst}
 use mathlib.Core.Bool.{Bool, true, false, not}
 use mathlib.Core.List.{List, _∷_, _++_, append-assoc, []}
-use native.Mathlib.Nat.{le-refl, le-trans, lt-of-le-of-lt, mul-le-mul, mul-one}
+use native.Mathlib.Nat.{le-refl, le-trans, mul-le-mul}
 use native.Mathlib.Omega.{arith}
-use lib.Dec.{leb, ltb, lit<, lit≤}
+use lib.Dec.{leb, ltb, lit≤}
 use lib.ListN.{length, getD, take, drop, replicate, length-append, length-drop, length-replicate, take-append-drop}
 use lib.Seq.{drop-at, take-at, drop-drop, length-take-le}
 use borrow.Author.Tests.{leb-true, ltb-false, eqb-true, le-leb, le-ltb, eq-eqb, not-false}
 use Rattle.slices.specs.Choices.{both}
-use Rattle.hypervolume.specs.Cells.{box}
+use Rattle.hypervolume.specs.Cells.{box, dominates}
 use Rattle.slices.proofs.Choices.{both-true, both-intro}
-use Rattle.words.specs.Archive.{Row, Shape, Archive, reference, trials}
+use Rattle.words.specs.Archive.{Trial, point, Row, Shape, reference, Archive, trials}
+use Rattle.words.specs.Format.{guard, within, each, shape-allowed, number-allowed, coordinates-allowed, header-allowed, row-allowed, rows-allowed, ordered, distinct, sound-rows, zeros, unused, records-allowed, archive-rows}
 use Rattle.words.specs.Layout.{header, records, extent, layout, word, read-row, read-rows, read-shape, read, behind}
-use Rattle.words.specs.Format.{guard, within, shape-allowed, number-allowed, coordinates-allowed, header-allowed, row-allowed, rows-allowed, ordered, distinct, zeros, unused, records-allowed, archive-rows}
-use Rattle.words.proofs.Reading.{length-records, length-read-rows, read-rows-at, records-read, header-read, read-layout, length-layout}
+use Rattle.words.proofs.Reading.{length-records, length-read-rows, read-rows-at, header-read, records-read, read-layout, length-layout}
 
 -- What a test of the table tells, as bounds, and back.
 
@@ -30,77 +30,74 @@ pub bounds-within : (low high n : ℕ) → low ≤ n → n ≤ high → within l
 unfolding within
 bounds-within low high n l h = both-intro (leb low n) (leb n high) (le-leb low n l) (le-leb n high h)
 
+-- Numbers that are each within bounds, by place; a place that the list lacks counts as 0.
+each-bounds : (low high : ℕ) (l : List ℕ) → each (within low high) l ≡ true → (i : ℕ) → (i < length l → low ≤ getD l i 0) × (getD l i 0 ≤ high)
+unfolding each
+each-bounds low high [] e i = (λ m. absurd (let no : ⊥ = omega arith in no), zero-le)
+each-bounds low high (n ∷ l) e zero =
+    let here = within-bounds low high n (both-true _ _ e .0) in
+    (λ m. here .0, here .1)
+each-bounds low high (n ∷ l) e (suc i) =
+    let later = each-bounds low high l (both-true _ _ e .1) i in
+    (λ m. later .0 (omega arith), later .1)
+
+-- The reference by its axis.
 pub record ShapeBounds (s : Shape) : Type 0 where
   pub capacity-low : 1 ≤ s .capacity
   pub capacity-high : s .capacity ≤ 512
-  pub rx-low : 1 ≤ s .rx
-  pub rx-high : s .rx ≤ 1048576
-  pub ry-low : 1 ≤ s .ry
-  pub ry-high : s .ry ≤ 1048576
-  pub rz-low : 1 ≤ s .rz
-  pub rz-high : s .rz ≤ 1048576
+  pub reference-low : (axis : ℕ) → axis < 3 → 1 ≤ getD (reference s) axis 0
+  pub reference-high : (axis : ℕ) → getD (reference s) axis 0 ≤ 1048576
 
 pub shape-bounds : (s : Shape) → shape-allowed s ≡ true → ShapeBounds s
 unfolding shape-allowed
 shape-bounds s e =
-    let c = both-true _ _ e in
-    let x = both-true _ _ (c .1) in
-    let yz = both-true _ _ (x .1) in
-    let capacity = within-bounds 1 512 (s .capacity) (c .0) in
-    let rx = within-bounds 1 1048576 (s .rx) (x .0) in
-    let ry = within-bounds 1 1048576 (s .ry) (yz .0) in
-    let rz = within-bounds 1 1048576 (s .rz) (yz .1) in
+    let parts = both-true _ _ e in
+    let capacity = within-bounds 1 512 (s .capacity) (parts .0) in
+    let numbers = each-bounds 1 1048576 (reference s) (parts .1) in
     record {
       capacity-low = capacity .0;
       capacity-high = capacity .1;
-      rx-low = rx .0;
-      rx-high = rx .1;
-      ry-low = ry .0;
-      ry-high = ry .1;
-      rz-low = rz .0;
-      rz-high = rz .1;
+      reference-low = λ axis l. numbers axis .0 l;
+      reference-high = λ axis. numbers axis .1;
     }
 
-pub bounds-shape : (s : Shape) → ShapeBounds s → shape-allowed s ≡ true
-unfolding shape-allowed
-bounds-shape s b =
-    both-intro _ _ (bounds-within 1 512 (s .capacity) (b .capacity-low) (b .capacity-high))
-    (both-intro _ _ (bounds-within 1 1048576 (s .rx) (b .rx-low) (b .rx-high))
-    (both-intro _ _ (bounds-within 1 1048576 (s .ry) (b .ry-low) (b .ry-high))
-    (bounds-within 1 1048576 (s .rz) (b .rz-low) (b .rz-high))))
+-- A point that is at most another on every axis, by the axis.
+at-most : (p q : List ℕ) → length p ≤ length q → dominates p q ≡ true → (axis : ℕ) → getD p axis 0 ≤ getD q axis 0
+unfolding dominates
+at-most [] q l e axis = zero-le
+at-most (x ∷ p) [] l e axis = absurd (let no : ⊥ = omega arith in no)
+at-most (x ∷ p) (y ∷ q) l e zero = leb-true x y (both-true _ _ e .0)
+at-most (x ∷ p) (y ∷ q) l e (suc axis) = at-most p q (omega arith) (both-true _ _ e .1) axis
+
+-- No coordinate that is allowed is above 1,048,576.
+pub coordinates-small : (s : Shape) (t : Trial) → ShapeBounds s → coordinates-allowed s t ≡ true → (axis : ℕ) → getD (point t) axis 0 ≤ 1048576
+unfolding coordinates-allowed
+coordinates-small s t b e axis = le-trans (at-most (point t) (reference s) (lit≤ tt) e axis) (b .reference-high axis)
 
 pub record RowBounds (s : Shape) (r : Row) : Type 0 where
   pub number-low : 1 ≤ r .trial .number
   pub number-high : r .trial .number ≤ 9999999
-  pub x-high : r .trial .x ≤ s .rx
-  pub y-high : r .trial .y ≤ s .ry
-  pub z-high : r .trial .z ≤ s .rz
+  pub coordinates : coordinates-allowed s (r .trial) ≡ true
   pub kept-high : r .kept ≤ box (reference s)
 
 pub row-bounds : (s : Shape) (r : Row) → row-allowed s r ≡ true → RowBounds s r
-unfolding row-allowed number-allowed coordinates-allowed
+unfolding row-allowed number-allowed
 row-bounds s r e =
     let n = both-true _ _ e in
     let k = both-true _ _ (n .1) in
-    let x = both-true _ _ (k .0) in
-    let yz = both-true _ _ (x .1) in
     let number = within-bounds 1 9999999 (r .trial .number) (n .0) in
     record {
       number-low = number .0;
       number-high = number .1;
-      x-high = leb-true _ _ (x .0);
-      y-high = leb-true _ _ (yz .0);
-      z-high = leb-true _ _ (yz .1);
+      coordinates = k .0;
       kept-high = leb-true _ _ (k .1);
     }
 
 pub bounds-row : (s : Shape) (r : Row) → RowBounds s r → row-allowed s r ≡ true
-unfolding row-allowed number-allowed coordinates-allowed
+unfolding row-allowed number-allowed
 bounds-row s r b =
     both-intro _ _ (bounds-within 1 9999999 (r .trial .number) (b .number-low) (b .number-high))
-    (both-intro _ _
-    (both-intro _ _ (le-leb _ _ (b .x-high)) (both-intro _ _ (le-leb _ _ (b .y-high)) (le-leb _ _ (b .z-high))))
-    (le-leb _ _ (b .kept-high)))
+    (both-intro _ _ (b .coordinates) (le-leb _ _ (b .kept-high)))
 
 -- Every row of rows that are allowed, by its place.
 pub rows-bounds : (s : Shape) (rows : List Row) → rows-allowed s rows ≡ true → (i : ℕ) (d : Row) → i < length rows → RowBounds s (getD rows i d)
@@ -117,12 +114,12 @@ bounds-rows s (r ∷ rows) d h =
     (bounds-rows s rows d (λ i l. h (suc i) (omega arith)))
 
 pub zeros-replicate : (n : ℕ) → zeros (replicate n 0) ≡ true
-unfolding zeros both
+unfolding zeros each both
 zeros-replicate zero = refl
 zeros-replicate (suc n) = zeros-replicate n
 
 pub replicate-zeros : (l : List ℕ) → zeros l ≡ true → l ≡ replicate (length l) 0
-unfolding zeros
+unfolding zeros each
 replicate-zeros [] e = refl
 replicate-zeros (n ∷ l) e =
     let t = both-true _ _ e in
@@ -177,7 +174,7 @@ record Tests (w : List ℕ) : Type 0 where
   unused-zero : zeros (unused w) ≡ true
 
 tests : (w : List ℕ) → archive-rows w 0 ≡ 0 → Tests w
-unfolding archive-rows header-allowed records-allowed extent
+unfolding archive-rows header-allowed records-allowed sound-rows extent
 tests w e =
     let first = guard-none _ _ _ e in
     let second = guard-none _ _ _ (first .1) in
@@ -187,9 +184,9 @@ tests w e =
     let six = both-true _ _ (shape .1) in
     let seven = both-true _ _ (six .1) in
     let counted = both-true _ _ (seven .1) in
-    let rows = both-true _ _ (not-false _ (fourth .0)) in
+    let records = both-true _ _ (not-false _ (fourth .0)) in
+    let rows = both-true _ _ (records .0) in
     let order = both-true _ _ (rows .1) in
-    let apart = both-true _ _ (order .1) in
     record {
       long = ltb-false (length w) (8 + 5 * word w 1) (third .0);
       shaped = shape .0;
@@ -199,8 +196,8 @@ tests w e =
       within-box = leb-true _ _ (counted .1);
       rows-fit = rows .0;
       in-order = order .0;
-      apart = apart .0;
-      unused-zero = apart .1;
+      apart = order .1;
+      unused-zero = records .1;
     }
 
 unused-words : (w : List ℕ) → Tests w → take (5 * (word w 1 - word w 0)) (drop (8 + 5 * word w 0) w) ≡ replicate (5 * (word w 1 - word w 0)) 0
@@ -248,7 +245,7 @@ passed w e =
     }
 
 tests-pass : (w : List ℕ) (rest : ℕ) → Tests w → archive-rows w rest ≡ rest
-unfolding archive-rows guard header-allowed records-allowed extent
+unfolding archive-rows guard header-allowed records-allowed sound-rows extent
 tests-pass w rest t =
     let long : 8 + 5 * word w 1 ≤ length w = t .long in
     let header : header-allowed w ≡ true =
@@ -257,8 +254,7 @@ tests-pass w rest t =
     (both-intro _ _ (eq-eqb _ _ (t .seven))
     (both-intro _ _ (le-leb _ _ (t .counted)) (le-leb _ _ (t .within-box))))) in
     let rows : records-allowed w ≡ true =
-    both-intro _ _ (t .rows-fit)
-    (both-intro _ _ (t .in-order) (both-intro _ _ (t .apart) (t .unused-zero))) in
+    both-intro _ _ (both-intro _ _ (t .rows-fit) (both-intro _ _ (t .in-order) (t .apart))) (t .unused-zero) in
     rw (le-ltb (length w) 8 (omega arith), header, le-ltb (length w) (8 + 5 * word w 1) long, rows)
 
 middle : (p q r : List ℕ) (i n : ℕ) → length p ≡ i → length q ≡ n → take n (drop i (p ++ (q ++ r))) ≡ q
@@ -300,6 +296,23 @@ pub passes-again : (w : List ℕ) (rest : ℕ) → Passed w → archive-rows w r
 passes-again w rest p =
     ap (λ l. archive-rows l rest) (p .laid) ∙ sound-passes (read w) (behind w) rest (p .sound)
 
+-- A call that is done has passed rows 1 to 3 and its own.
+none-guard : (t : Bool) (n rest : ℕ) → t ≡ false → rest ≡ 0 → guard t n rest ≡ 0
+unfolding guard
+none-guard t n rest p q = rw (p, q)
+
+pub passed-both : (w : List ℕ) (rest : ℕ) → archive-rows w rest ≡ 0 → (archive-rows w 0 ≡ 0) × (rest ≡ 0)
+unfolding archive-rows
+passed-both w rest e =
+    let first = guard-none _ _ _ e in
+    let second = guard-none _ _ _ (first .1) in
+    let third = guard-none _ _ _ (second .1) in
+    let fourth = guard-none _ _ _ (third .1) in (
+      none-guard _ _ _ (first .0)
+          (none-guard _ _ _ (second .0) (none-guard _ _ _ (third .0) (none-guard _ _ _ (fourth .0) refl))),
+      fourth .1,
+    )
+
 -- Words that rows 1 to 3 turn down are turned down by the same row, whatever rows a call adds.
 pub still-refused : (w : List ℕ) (rest : ℕ) → (archive-rows w 0 ≡ 0 → ⊥) → archive-rows w rest ≡ archive-rows w 0
 unfolding archive-rows guard
@@ -326,15 +339,7 @@ passed-row w p i l =
     subst (RowBounds (read-shape w)) place (rows-bounds (read-shape w) rows (p .sound .rows-fit) i none inside)
 
 -- "The box is rx × ry × rz, at most 2^60."
-pub box-product : (s : Shape) → s .rx * (s .ry * s .rz) ≡ box (reference s)
-unfolding box
-box-product s = rw (mul-one (s .rz))
-
 pub box-bound : (s : Shape) → ShapeBounds s → box (reference s) ≤ 2 ^ 60
 unfolding box
 box-bound s b =
-    le-trans (mul-le-mul (b .rx-high) (mul-le-mul (b .ry-high) (mul-le-mul (b .rz-high) (le-refl 1)))) (lit≤ tt)
-
-pub box-fits : (s : Shape) → shape-allowed s ≡ true → s .rx * (s .ry * s .rz) < 2 ^ 64
-box-fits s e =
-    subst (λ n. n < 2 ^ 64) (sym (box-product s)) (lt-of-le-of-lt (box-bound s (shape-bounds s e)) (lit< tt))
+    le-trans (mul-le-mul (b .reference-high 0) (mul-le-mul (b .reference-high 1) (mul-le-mul (b .reference-high 2) (le-refl 1)))) (lit≤ tt)

@@ -13,8 +13,8 @@ ghost use Rattle.slices.specs.Choices.{both, either};
 ghost use Rattle.hypervolume.specs.Cells.{box};
 ghost use Rattle.words.specs.Archive.{reference, before};
 ghost use Rattle.words.specs.Layout.{read-shape, read};
-ghost use Rattle.words.specs.Format.{within, shape-allowed, number-allowed, coordinates-allowed, header-allowed, row-allowed, zeros, records-allowed, archive-rows};
-ghost use Rattle.words.specs.Places.{as-row, as-shape, follows, stands, sound-rows, AtPlace, Headed};
+ghost use Rattle.words.specs.Format.{within, shape-allowed, number-allowed, coordinates-allowed, header-allowed, row-allowed, sound-rows, zeros, records-allowed, archive-rows};
+ghost use Rattle.words.specs.Places.{as-row, as-shape, follows, stands, AtPlace, Headed};
 ghost use Rattle.words.specs.Table.{marked, Marking};
 
 // Both of two tests.

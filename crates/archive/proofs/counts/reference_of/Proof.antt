@@ -6,13 +6,13 @@ use Rattle.archive.proofs.counts.reference_of.Statement.{statement}
 use Rattle.archive.proofs.counts.reference_of.Tie as tie
 
 cast-t2 : tie.Need-cast-t2
-cast-t2 c = omega (arith, shape-bounds _ (c .before .pre))
+cast-t2 c = omega (arith, shape-bounds _ (c .before .pre) .reference-high 0)
 
 cast-t3 : tie.Need-cast-t3
-cast-t3 c = omega (arith, shape-bounds _ (c .before .before .pre))
+cast-t3 c = omega (arith, shape-bounds _ (c .before .before .pre) .reference-high 1)
 
 cast-t4 : tie.Need-cast-t4
-cast-t4 c = omega (arith, shape-bounds _ (c .before .before .before .pre))
+cast-t4 c = omega (arith, shape-bounds _ (c .before .before .before .pre) .reference-high 2)
 
 returns : tie.Need-returns
 returns c = search needs

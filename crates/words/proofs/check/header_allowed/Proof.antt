@@ -3,7 +3,7 @@ use mathlib.Core.Path.{_∙_, ap, sym}
 use borrow.Author.Needs.{needs}
 use borrow.Author.Tests.{not-false, not-true}
 use Rattle.slices.specs.Choices.{both}
-use Rattle.words.proofs.Checking.{header-bad-shape, header-good-shape}
+use Rattle.words.proofs.check.HeaderAllowed.{header-bad-shape, header-good-shape}
 use Rattle.words.proofs.check.header_allowed.Statement.{statement}
 use Rattle.words.proofs.check.header_allowed.Tie as tie
 

@@ -2,7 +2,9 @@
 use mathlib.Core.Path.{_∙_}
 use native.Mathlib.Omega.{arith}
 use borrow.Author.Needs.{needs}
-use Rattle.words.proofs.Checking.{first-failed, first-passed, header-facts, records-test, unused-part}
+use Rattle.words.proofs.check.BothLaws.{first-failed, first-passed}
+use Rattle.words.proofs.check.HeaderAllowed.{header-facts}
+use Rattle.words.proofs.check.RecordsAllowed.{records-test, unused-part}
 use Rattle.words.proofs.check.records_allowed.Statement.{statement}
 use Rattle.words.proofs.check.records_allowed.Tie as tie
 

@@ -1,0 +1,11 @@
+-- Laws that the proofs of the check use, each file named after the code that it serves.
+mod BothLaws
+mod BoxOf
+pub mod CoordinatesAllowed
+mod HeaderAllowed
+mod MarkLaws
+mod RecordsAllowed
+mod RefusalLaws
+mod RowsAllowed
+mod StandsLaws
+mod ZerosLaws

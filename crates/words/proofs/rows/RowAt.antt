@@ -1,0 +1,32 @@
+-- The record at a place: the words that it is read from, and the records before it.
+use Prim.Native.Nat.{ℕ, _+_, _*_, _<_}
+use mathlib.Core.Path.{_≡_, sym, ap, _∙_}
+use mathlib.Core.List.{List, _∷_, _++_, []}
+use native.Mathlib.Nat.{add-zero}
+use lib.ListN.{getD, drop}
+use lib.Seq.{drop-drop, getD-drop}
+use Rattle.words.specs.Archive.{Row}
+use Rattle.words.specs.Layout.{word, read-row, read-rows}
+use Rattle.words.specs.Places.{row-at, rows-before}
+use Rattle.words.proofs.Reading.{read-rows-append, read-rows-at}
+
+-- A record of five numbers.
+abbrev pub row-by-words : ℕ → ℕ → ℕ → ℕ → ℕ → Row
+row-by-words number x y z kept = record { trial = record { number = number; x = x; y = y; z = z }; kept = kept }
+
+-- The five words of the record at a place.
+pub row-at-words : (w : List ℕ) (i : ℕ) → row-by-words (word w (8 + 5 * i)) (word w (8 + 5 * i + 1)) (word w (8 + 5 * i + 2)) (word w (8 + 5 * i + 3)) (word w (8 + 5 * i + 4)) ≡ row-at w i
+unfolding row-at read-row
+row-at-words w i = sym (simp (getD-drop, add-zero))
+
+pub row-at-number : (w : List ℕ) (i : ℕ) → row-at w i .trial .number ≡ word w (8 + 5 * i)
+row-at-number w i = ap (λ r. r .trial .number) (sym (row-at-words w i))
+
+-- The records before a place, by index, and one record more.
+pub rows-before-at : (w : List ℕ) (n i : ℕ) (d : Row) → i < n → getD (rows-before w n) i d ≡ row-at w i
+unfolding row-at
+rows-before-at w n i d l = read-rows-at n i (drop 8 w) d l ∙ ap read-row (drop-drop (5 * i) 8 w)
+
+pub rows-before-more : (w : List ℕ) (i : ℕ) → rows-before w (i + 1) ≡ rows-before w i ++ (row-at w i ∷ [])
+unfolding row-at read-rows
+rows-before-more w i = read-rows-append i 1 (drop 8 w) ∙ rw (drop-drop (5 * i) 8 w)
