@@ -8,7 +8,7 @@ use Rattle.hypervolume.specs.Counts.{cover, joint, joints}
 use Rattle.hypervolume.proofs.Counting.{SameCover, joint-same}
 use Rattle.sweep.specs.Points.{Small}
 use Rattle.words.specs.Archive.{Row, point, trials, points}
-use Rattle.words.specs.Layout.{word, read}
+use Rattle.words.specs.Layout.{word, read, read-shape}
 use Rattle.words.specs.Format.{archive-rows}
 use Rattle.words.specs.Places.{row-at}
 use Rattle.words.proofs.Passed.{passed, passed-row, coordinates-small}

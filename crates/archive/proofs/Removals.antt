@@ -17,7 +17,7 @@ use Rattle.words.specs.Layout.{records, layout, read, read-shape, word, behind,
 use Rattle.words.specs.Format.{guard, archive-rows, row-allowed, rows-allowed}
 use Rattle.words.specs.Places.{rows-before, row-at, Found}
 use Rattle.words.proofs.Passed.{passed, row-bounds, passed-row, coordinates-small}
-use Rattle.words.proofs.rows.SearchLaws.{find-held}
+use Rattle.words.proofs.Places.{find-held}
 use Rattle.archive.specs.declared.amounts.Moved.{Moved}
 use Rattle.archive.specs.Calls.{reference-of, held-points, box-of, insert-gain, joint-with, row-of, others, without, removal-loss, raised, removed, exceeds, remove-overruns, remove-rows}
 use Rattle.archive.specs.Lent.{Outcome, remove}

@@ -17,7 +17,7 @@ use Rattle.words.specs.Format.{guard, archive-rows}
 use Rattle.words.specs.Places.{row-at, rows-before}
 use Rattle.words.proofs.Reading.{length-read-rows}
 use Rattle.words.proofs.Passed.{Passed, passed, passes-again, still-refused}
-use Rattle.words.proofs.rows.RowAt.{rows-before-more}
+use Rattle.words.proofs.Places.{rows-before-more}
 use Rattle.archive.specs.declared.Answer.{Answer}
 use Rattle.archive.specs.Lent.{answer}
 use Rattle.card.specs.Report.{report-line, head-line, record-line, record-lines, report-text, report-rows, report, over, output, reported, Room}

@@ -16,7 +16,7 @@ use Rattle.words.specs.Archive.{Trial, Shape, Archive}
 use Rattle.words.specs.Layout.{header, layout, extent, word, read, behind}
 use Rattle.words.specs.Format.{guard, within, number-allowed, coordinates-allowed, held, archive-rows}
 use Rattle.words.proofs.Reading.{read-layout, length-layout, behind-layout}
-use Rattle.words.proofs.Passed.{Sound, sound-passes}
+use Rattle.words.proofs.Passed.{Sound, sound-passes, coordinates-by-axis}
 use Rattle.words.proofs.Short.{part-short}
 use Rattle.archive.specs.Calls.{held-trials, inserted, insert-overruns, admission-rows, insert-rows, removed, remove-overruns, remove-rows, audited, after-drops, notes, reduce-rows}
 use Rattle.archive.specs.Counted.{counted}
@@ -29,7 +29,6 @@ use Rattle.history.specs.Book.{Book, Turn, refuse-if, row-1, has, entere
 use Rattle.history.specs.History.{Call, on-words, lent-of, answered, request, log-of, expected, sorted, shape-of-book, fresh-archive, fresh}
 use Rattle.history.proofs.Sorting.{has-held, sorted-held}
 use Rattle.history.proofs.Thinning.{fresh-count, fresh-counted, fresh-trials, fresh-remove, struck-shape, thins}
-use Rattle.words.proofs.check.CoordinatesAllowed.{coordinates-by-axis}
 
 -- The words hold the fresh archive of the book, of this shape, and behind it the rest.
 pub record Holds (s : Shape) (rest : List ℕ) (b : Book) (w : List ℕ) : Type 0 where

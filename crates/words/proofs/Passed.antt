@@ -12,7 +12,7 @@ use lib.Seq.{drop-at, take-at, drop-drop, length-take-le}
 use borrow.Author.Tests.{leb-true, ltb-false, eqb-true, le-leb, le-ltb, eq-eqb, not-false}
 use Rattle.slices.specs.Choices.{both}
 use Rattle.hypervolume.specs.Cells.{box, dominates}
-use Rattle.slices.proofs.Choices.{both-true, both-intro}
+use Rattle.slices.proofs.Choices.{both-true, both-intro, both-comm}
 use Rattle.words.specs.Archive.{Trial, point, Row, Shape, reference, Archive, trials}
 use Rattle.words.specs.Format.{guard, within, each, shape-allowed, number-allowed, coordinates-allowed, header-allowed, row-allowed, rows-allowed, ordered, distinct, sound-rows, zeros, unused, records-allowed, archive-rows}
 use Rattle.words.specs.Layout.{header, records, extent, layout, word, read-row, read-rows, read-shape, read, behind}
@@ -61,18 +61,24 @@ shape-bounds s e =
       reference-high = λ axis. numbers axis .1;
     }
 
--- A point that is at most another on every axis, by the axis.
-at-most : (p q : List ℕ) → length p ≤ length q → dominates p q ≡ true → (axis : ℕ) → getD p axis 0 ≤ getD q axis 0
+-- A point that dominates another is at most it, by the axis.
+dominates-axis : (p q : List ℕ) → length p ≤ length q → dominates p q ≡ true → (axis : ℕ) → getD p axis 0 ≤ getD q axis 0
 unfolding dominates
-at-most [] q l e axis = zero-le
-at-most (x ∷ p) [] l e axis = absurd (let no : ⊥ = omega arith in no)
-at-most (x ∷ p) (y ∷ q) l e zero = leb-true x y (both-true _ _ e .0)
-at-most (x ∷ p) (y ∷ q) l e (suc axis) = at-most p q (omega arith) (both-true _ _ e .1) axis
+dominates-axis [] q l e axis = zero-le
+dominates-axis (x ∷ p) [] l e axis = absurd (let no : ⊥ = omega arith in no)
+dominates-axis (x ∷ p) (y ∷ q) l e zero = leb-true x y (both-true _ _ e .0)
+dominates-axis (x ∷ p) (y ∷ q) l e (suc axis) = dominates-axis p q (omega arith) (both-true _ _ e .1) axis
 
 -- No coordinate that is allowed is above 1,048,576.
 pub coordinates-small : (s : Shape) (t : Trial) → ShapeBounds s → coordinates-allowed s t ≡ true → (axis : ℕ) → getD (point t) axis 0 ≤ 1048576
 unfolding coordinates-allowed
-coordinates-small s t b e axis = le-trans (at-most (point t) (reference s) (lit≤ tt) e axis) (b .reference-high axis)
+coordinates-small s t b e axis = le-trans (dominates-axis (point t) (reference s) (lit≤ tt) e axis) (b .reference-high axis)
+
+-- The coordinates compared one axis after the other.
+pub coordinates-by-axis : (s : Shape) (t : Trial) → coordinates-allowed s t ≡ both (leb (t .x) (s .rx)) (both (leb (t .y) (s .ry)) (leb (t .z) (s .rz)))
+unfolding coordinates-allowed dominates both
+coordinates-by-axis s t =
+    ap (λ b. both (leb (t .x) (s .rx)) (both (leb (t .y) (s .ry)) b)) (both-comm (leb (t .z) (s .rz)) true)
 
 pub record RowBounds (s : Shape) (r : Row) : Type 0 where
   pub number-low : 1 ≤ r .trial .number
@@ -105,13 +111,6 @@ unfolding rows-allowed
 rows-bounds s [] e i d l = absurd (let no : ⊥ = omega arith in no)
 rows-bounds s (r ∷ rows) e zero d l = row-bounds s r (both-true _ _ e .0)
 rows-bounds s (r ∷ rows) e (suc i) d l = rows-bounds s rows (both-true _ _ e .1) i d (omega arith)
-
-pub bounds-rows : (s : Shape) (rows : List Row) (d : Row) → ((i : ℕ) → i < length rows → RowBounds s (getD rows i d)) → rows-allowed s rows ≡ true
-unfolding rows-allowed
-bounds-rows s [] d h = refl
-bounds-rows s (r ∷ rows) d h =
-    both-intro _ _ (bounds-row s r (h 0 (omega arith)))
-    (bounds-rows s rows d (λ i l. h (suc i) (omega arith)))
 
 pub zeros-replicate : (n : ℕ) → zeros (replicate n 0) ≡ true
 unfolding zeros each both
@@ -160,6 +159,36 @@ parts i j k w =
       take-append-drop i w,
     )
 
+-- Rows 1 to 3 passed, and then the rows of the call.
+pub record Unrefused (w : List ℕ) (rest : ℕ) : Type 0 where
+  pub some : ltb (length w) 8 ≡ false
+  pub header : header-allowed w ≡ true
+  pub whole : ltb (length w) (extent (word w 1)) ≡ false
+  pub records : records-allowed w ≡ true
+  pub call : rest ≡ 0
+
+pub unrefused : (w : List ℕ) (rest : ℕ) → archive-rows w rest ≡ 0 → Unrefused w rest
+unfolding archive-rows
+unrefused w rest e =
+    let first = guard-none _ _ _ e in
+    let second = guard-none _ _ _ (first .1) in
+    let third = guard-none _ _ _ (second .1) in
+    let fourth = guard-none _ _ _ (third .1) in
+    record {
+      some = first .0;
+      header = not-false _ (second .0);
+      whole = third .0;
+      records = not-false _ (fourth .0);
+      call = fourth .1;
+    }
+
+-- A call that is done has passed rows 1 to 3 and its own.
+pub passed-both : (w : List ℕ) (rest : ℕ) → archive-rows w rest ≡ 0 → (archive-rows w 0 ≡ 0) × (rest ≡ 0)
+unfolding archive-rows guard
+passed-both w rest e =
+    let c : Unrefused w rest = unrefused w rest e in
+    (rw (c .some, c .header, c .whole, c .records), c .call)
+
 -- The tests of rows 1 to 3, all passed.
 record Tests (w : List ℕ) : Type 0 where
   long : 8 + 5 * word w 1 ≤ length w
@@ -174,21 +203,18 @@ record Tests (w : List ℕ) : Type 0 where
   unused-zero : zeros (unused w) ≡ true
 
 tests : (w : List ℕ) → archive-rows w 0 ≡ 0 → Tests w
-unfolding archive-rows header-allowed records-allowed sound-rows extent
+unfolding header-allowed records-allowed sound-rows extent
 tests w e =
-    let first = guard-none _ _ _ e in
-    let second = guard-none _ _ _ (first .1) in
-    let third = guard-none _ _ _ (second .1) in
-    let fourth = guard-none _ _ _ (third .1) in
-    let shape = both-true _ _ (not-false _ (second .0)) in
+    let c : Unrefused w 0 = unrefused w 0 e in
+    let shape = both-true _ _ (c .header) in
     let six = both-true _ _ (shape .1) in
     let seven = both-true _ _ (six .1) in
     let counted = both-true _ _ (seven .1) in
-    let records = both-true _ _ (not-false _ (fourth .0)) in
+    let records = both-true _ _ (c .records) in
     let rows = both-true _ _ (records .0) in
     let order = both-true _ _ (rows .1) in
     record {
-      long = ltb-false (length w) (8 + 5 * word w 1) (third .0);
+      long = ltb-false (length w) (8 + 5 * word w 1) (c .whole);
       shaped = shape .0;
       six = eqb-true _ _ (six .0);
       seven = eqb-true _ _ (seven .0);
@@ -295,23 +321,6 @@ sound-passes a b rest s =
 pub passes-again : (w : List ℕ) (rest : ℕ) → Passed w → archive-rows w rest ≡ rest
 passes-again w rest p =
     ap (λ l. archive-rows l rest) (p .laid) ∙ sound-passes (read w) (behind w) rest (p .sound)
-
--- A call that is done has passed rows 1 to 3 and its own.
-none-guard : (t : Bool) (n rest : ℕ) → t ≡ false → rest ≡ 0 → guard t n rest ≡ 0
-unfolding guard
-none-guard t n rest p q = rw (p, q)
-
-pub passed-both : (w : List ℕ) (rest : ℕ) → archive-rows w rest ≡ 0 → (archive-rows w 0 ≡ 0) × (rest ≡ 0)
-unfolding archive-rows
-passed-both w rest e =
-    let first = guard-none _ _ _ e in
-    let second = guard-none _ _ _ (first .1) in
-    let third = guard-none _ _ _ (second .1) in
-    let fourth = guard-none _ _ _ (third .1) in (
-      none-guard _ _ _ (first .0)
-          (none-guard _ _ _ (second .0) (none-guard _ _ _ (third .0) (none-guard _ _ _ (fourth .0) refl))),
-      fourth .1,
-    )
 
 -- Words that rows 1 to 3 turn down are turned down by the same row, whatever rows a call adds.
 pub still-refused : (w : List ℕ) (rest : ℕ) → (archive-rows w 0 ≡ 0 → ⊥) → archive-rows w rest ≡ archive-rows w 0

@@ -8,10 +8,6 @@ use Rattle.slices.proofs.Choices.{both-true, both-intro, both-comm, both-assoc}
 use Rattle.words.specs.Archive.{Trial, Row, Shape, trials, before}
 use Rattle.words.specs.Format.{row-allowed, rows-allowed, ordered, held, distinct, sound-rows}
 use Rattle.words.proofs.Held.{eqb-sym, held-append, held-snoc}
-use mathlib.Core.List.{List, _∷_, _++_, []}
-use lib.Dec.{eqb}
-use Rattle.slices.specs.Choices.{both}
-use Rattle.slices.proofs.Choices.{both-true, both-intro, both-comm, both-assoc}
 
 pub trials-append : (a b : List Row) → trials (a ++ b) ≡ trials a ++ trials b
 unfolding trials

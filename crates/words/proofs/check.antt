@@ -1,7 +1,6 @@
 -- Laws that the proofs of the check use, each file named after the code that it serves.
 mod BothLaws
 mod BoxOf
-pub mod CoordinatesAllowed
 mod HeaderAllowed
 mod MarkLaws
 mod RecordsAllowed

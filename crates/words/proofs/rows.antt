@@ -1,3 +1,2 @@
--- Laws of the record at a place, and of the search for a number.
-pub mod RowAt
-pub mod SearchLaws
+-- Laws that the proofs of the search use.
+mod SearchLaws

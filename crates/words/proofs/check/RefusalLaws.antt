@@ -13,7 +13,7 @@ use Rattle.words.specs.Places.{Headed}
 use Rattle.words.proofs.Passed.{shape-bounds}
 use Rattle.words.proofs.check.HeaderAllowed.{HeaderFacts, header-facts}
 
--- Rows 1 to 3 in the table's order.
+-- What the code knows once header_allowed has answered.
 pub headed : (w : List ℕ) (t : Bool) → t ≡ header-allowed w → not t ≡ false → 8 + 5 * word w 1 ≤ length w → Headed w
 unfolding extent
 headed w t e n l = record { allowed = sym e ∙ not-false t n; whole = l }

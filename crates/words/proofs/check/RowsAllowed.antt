@@ -18,12 +18,12 @@ use Rattle.words.specs.Places.{row-at, rows-before, follows, repeated, s
 use Rattle.words.specs.Table.{marked, Marking}
 use Rattle.words.proofs.Held.{held-nowhere}
 use Rattle.words.proofs.Passed.{passed}
+use Rattle.words.proofs.Places.{row-at-number, rows-before-at, rows-before-more}
 use Rattle.words.proofs.Reading.{length-read-rows, read-rows-append}
 use Rattle.words.proofs.SoundRows.{trials-append, rows-allowed-append, distinct-snoc, ordered-snoc, sound-rows-part}
 use Rattle.words.proofs.check.HeaderAllowed.{HeaderFacts, header-facts}
-use Rattle.words.proofs.rows.RowAt.{row-at-number, rows-before-at, rows-before-more}
 
--- Row 3, the records. One record more.
+-- One record more.
 trials-more : (w : List ℕ) (i : ℕ) → trials (rows-before w (i + 1)) ≡ trials (rows-before w i) ++ (row-at w i .trial ∷ [])
 unfolding trials
 trials-more w i = ap trials (rows-before-more w i) ∙ trials-append (rows-before w i) (row-at w i ∷ [])

@@ -14,7 +14,6 @@ use Rattle.words.specs.Layout.{read-shape}
 use Rattle.words.specs.Places.{row-at, follows, repeated, stands, Found}
 use Rattle.words.proofs.check.BothLaws.{first-passed}
 
--- Row 3 at a place, as the code takes it: the record and its order first, its number last.
 pub stands-test : (w : List ℕ) (i : ℕ) (s : Shape) (r : Row) (a f b : Bool) → s ≡ read-shape w → r ≡ row-at w i
     → a ≡ row-allowed s r → f ≡ follows w i → b ≡ both a f
     → both b (not (repeated w i)) ≡ stands w i

@@ -17,7 +17,6 @@ use Rattle.slices.proofs.Choices.{both-comm, both-assoc}
 use Rattle.words.specs.Format.{each, zeros}
 use Rattle.words.specs.Layout.{word}
 
--- The unused words: a disjunction is zero where both parts are.
 or-zero : (a b : ℕ) → eqb (bitOr a b) 0 ≡ both (eqb a 0) (eqb b 0)
 unfolding both
 or-zero a b = go (eqb a 0) (eqb b 0) (equated a 0) (equated b 0)
@@ -29,7 +28,7 @@ or-zero a b = go (eqb a 0) (eqb b 0) (equated a 0) (equated b 0)
     go false t (differs g) f =
         ne-eqb _ _ (λ (z : bitOr a b ≡ 0). g (omega (arith, or-add-and a b, and-le-l a b, and-le-r a b)))
 
--- The words from place i on decide what is left, once `any` has gathered those before.
+-- The words from place i on decide what is left, once those before are blended into `any`.
 pub record Blended (w : List ℕ) (from to any i : ℕ) : Type 0 where
   pub low : from ≤ i
   pub high : i ≤ to

@@ -1,19 +1,18 @@
--- The loop of search, and what a search among all records tells of the archive.
+-- The loop of search.
 use Prim.Native.Nat.{ℕ, _+_, _*_, _≤_, _<_}
 use mathlib.Core.Path.{_≡_, sym, ap, _∙_}
 use mathlib.Core.List.{List}
 use native.Mathlib.Omega.{arith}
-use lib.Dec.{ltb}
 use lib.ListN.{length, getD, drop}
 use borrow.Author.Count.{below-more}
 use borrow.Author.Tests.{lt-ltb, le-ltb}
 use Rattle.words.specs.Archive.{Row, trials}
 use Rattle.words.specs.Format.{held}
-use Rattle.words.specs.Layout.{word, read}
+use Rattle.words.specs.Layout.{word}
 use Rattle.words.specs.Places.{row-at, rows-before, Found}
 use Rattle.words.proofs.Held.{held-at, held-nowhere}
+use Rattle.words.proofs.Places.{row-at-number, rows-before-at}
 use Rattle.words.proofs.Reading.{length-read-rows}
-use Rattle.words.proofs.rows.RowAt.{row-at-number, rows-before-at}
 
 -- A search: no record before place i has the number.
 pub record Unfound (w : List ℕ) (n number i : ℕ) : Type 0 where
@@ -55,8 +54,3 @@ search-end w n number i u l =
     absent k k<n e =
         u .none k (omega arith)
         (ap (λ r. r .trial .number) (sym (rows-before-at w n k (row-at w i) k<n)) ∙ e)
-
--- What finding a number tells of the archive that the words hold.
-pub find-held : (w : List ℕ) (number place : ℕ) → Found w (word w 0) number place → held number (trials (read w .rows)) ≡ ltb place (word w 0)
-unfolding read
-find-held w number place f = f .holds

@@ -4,7 +4,7 @@ use native.Mathlib.Omega.{arith}
 use borrow.Author.Tests.{lt-ltb, le-ltb}
 use Rattle.words.specs.Layout.{read}
 use Rattle.words.specs.Places.{row-at}
-use Rattle.words.proofs.rows.SearchLaws.{find-held}
+use Rattle.words.proofs.Places.{find-held}
 use Rattle.archive.specs.Calls.{joint-of}
 use Rattle.archive.specs.Lent.{joint}
 use Rattle.archive.proofs.Answers.{known}

@@ -8,7 +8,7 @@ use borrow.Author.Tests.{not-true, not-false, lt-ltb, le-ltb}
 use Rattle.words.specs.Format.{number-allowed, coordinates-allowed, held}
 use Rattle.words.specs.Layout.{read, read-shape, word}
 use Rattle.words.specs.Places.{as-row}
-use Rattle.words.proofs.rows.SearchLaws.{find-held}
+use Rattle.words.proofs.Places.{find-held}
 use Rattle.archive.specs.Calls.{held-trials}
 use Rattle.archive.proofs.Answers.{known}
 use Rattle.archive.proofs.Stored.{count-rows}

@@ -2,7 +2,7 @@
 use mathlib.Core.Path.{_∙_, ap, sym}
 use borrow.Author.Needs.{needs}
 use Rattle.slices.specs.Choices.{both}
-use Rattle.words.proofs.check.CoordinatesAllowed.{coordinates-by-axis}
+use Rattle.words.proofs.Passed.{coordinates-by-axis}
 use Rattle.words.proofs.check.coordinates_allowed.Statement.{statement}
 use Rattle.words.proofs.check.coordinates_allowed.Tie as tie
 

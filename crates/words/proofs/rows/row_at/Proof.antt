@@ -1,6 +1,6 @@
 -- `row_at` meets its contract.
 use borrow.Author.Needs.{needs}
-use Rattle.words.proofs.rows.RowAt.{row-at-words}
+use Rattle.words.proofs.Places.{row-at-words}
 use Rattle.words.proofs.rows.row_at.Statement.{statement}
 use Rattle.words.proofs.rows.row_at.Tie as tie
 

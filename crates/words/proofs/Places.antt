@@ -1,13 +1,16 @@
--- The record at a place: the words that it is read from, and the records before it.
+-- Laws of records by their place: the words that a record is read from, the records before a place, and what a search
+-- among all records tells of the archive.
 use Prim.Native.Nat.{ℕ, _+_, _*_, _<_}
 use mathlib.Core.Path.{_≡_, sym, ap, _∙_}
 use mathlib.Core.List.{List, _∷_, _++_, []}
 use native.Mathlib.Nat.{add-zero}
+use lib.Dec.{ltb}
 use lib.ListN.{getD, drop}
 use lib.Seq.{drop-drop, getD-drop}
-use Rattle.words.specs.Archive.{Row}
-use Rattle.words.specs.Layout.{word, read-row, read-rows}
-use Rattle.words.specs.Places.{row-at, rows-before}
+use Rattle.words.specs.Archive.{Row, trials}
+use Rattle.words.specs.Format.{held}
+use Rattle.words.specs.Layout.{word, read-row, read-rows, read}
+use Rattle.words.specs.Places.{row-at, rows-before, Found}
 use Rattle.words.proofs.Reading.{read-rows-append, read-rows-at}
 
 -- A record of five numbers.
@@ -30,3 +33,8 @@ rows-before-at w n i d l = read-rows-at n i (drop 8 w) d l ∙ ap read-row (drop
 pub rows-before-more : (w : List ℕ) (i : ℕ) → rows-before w (i + 1) ≡ rows-before w i ++ (row-at w i ∷ [])
 unfolding row-at read-rows
 rows-before-more w i = read-rows-append i 1 (drop 8 w) ∙ rw (drop-drop (5 * i) 8 w)
+
+-- What finding a number tells of the archive that the words hold.
+pub find-held : (w : List ℕ) (number place : ℕ) → Found w (word w 0) number place → held number (trials (read w .rows)) ≡ ltb place (word w 0)
+unfolding read
+find-held w number place f = f .holds
