@@ -1,6 +1,6 @@
 -- Removal, from the counted amounts to the words left: what the steps of the code come to.
 use Prim.Native.Nat.{ℕ, zero, suc, _+_, _-_, _*_, _≤_, _<_, zero-le}
-use mathlib.Core.Path.{_≡_, refl, sym, ap, ap₂, _∙_}
+use mathlib.Core.Path.{_≡_, refl, sym, ap, ap₂, _∙_, subst}
 use mathlib.Core.Bool.{Bool, true, false, not}
 use mathlib.Core.List.{List, _∷_, _++_, map, []}
 use native.Mathlib.Omega.{arith}
@@ -102,7 +102,8 @@ joints-each w k = shares-each (without (read w) (number-at w k)) (row-at w k .tr
 pub point-small : (w : List ℕ) (k : ℕ) (row : Row) → archive-rows w 0 ≡ 0 → k < word w 0 → row ≡ row-at w k → Small (point (row .trial))
 unfolding row-at
 point-small w k row p l e =
-    rw e (coordinates-small (read-shape w) (row-at w k .trial) (passed w p .bounds) (passed-row w (passed w p) k l .coordinates))
+    subst (λ r. Small (point (r .trial))) (sym e)
+    (coordinates-small (read-shape w) (row-at w k .trial) (passed w p .bounds) (passed-row w (passed w p) k l .coordinates))
 
 -- The three ways out of `raised`.
 module _ (w : List ℕ) (k : ℕ) (after : List ℕ) (r : ℕ) (p : archive-rows w 0 ≡ 0) (l : k < word w 0) (lost : r ≡ removal-loss (read w) (number-at w k)) where
