@@ -21,8 +21,8 @@ unfolding AllMet Met small usual done answers asked step-answer step-words Lent.
     Lent.least-answer empty place insert-gain joint-with lowered inserted falls-below insert-overruns insert-rows admission-rows
     row-of others without removal-loss raised removed exceeds remove-overruns remove-rows goes-first least-from
     least-row least-rows joint-of joint-rows gain-rows share-of rows-counted audited dropped note after-drops notes
-    reduce-rows guard within shape-allowed number-allowed coordinates-allowed header-allowed row-allowed rows-allowed
-    ordered held distinct zeros unused records-allowed archive-rows header record-words records extent layout read-row
+    reduce-rows guard within each shape-allowed number-allowed coordinates-allowed header-allowed row-allowed rows-allowed
+    ordered held distinct sound-rows zeros unused records-allowed archive-rows header record-words records extent layout read-row
     read-rows read-shape read behind trials points pick either ascends before cover total contribution joint gain both
     holds dominates sum cells count box
 small-met = (refl, (refl, (refl, (refl, (refl, (refl, (refl, (refl, (refl, tt)))))))))
@@ -78,10 +78,10 @@ behind-first (star s []) = []
 behind-first (star s (line ∷ lines)) = lines
 
 later-met : answers (layout alone ++ []) (behind-first largest) ≡ asked (behind-first largest)
-unfolding behind-first largest answers asked step-answer step-words Lent.insert Lent.leaves guard within
+unfolding behind-first largest answers asked step-answer step-words Lent.insert Lent.leaves guard within each
     shape-allowed number-allowed coordinates-allowed header-allowed row-allowed rows-allowed ordered held distinct
-    zeros unused records-allowed archive-rows insert-rows admission-rows header record-words records extent layout read-row read-rows
-    read-shape read behind trials either both box alone far origin
+    sound-rows zeros unused records-allowed archive-rows insert-rows admission-rows header record-words records extent layout read-row read-rows
+    read-shape read behind trials either both dominates box alone far origin
 later-met = refl
 
 largest-met : Met largest
