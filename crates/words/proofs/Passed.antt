@@ -7,15 +7,16 @@ use mathlib.Core.List.{List, _∷_, _++_, append-assoc, []}
 use native.Mathlib.Nat.{le-refl, le-trans, mul-le-mul}
 use native.Mathlib.Omega.{arith}
 use lib.Dec.{leb, ltb, lit≤}
-use lib.ListN.{length, getD, take, drop, replicate, length-append, length-drop, length-replicate, take-append-drop}
-use lib.Seq.{drop-at, take-at, drop-drop, length-take-le}
-use borrow.Author.Tests.{leb-true, ltb-false, eqb-true, le-leb, le-ltb, eq-eqb, not-false}
+use lib.ListN.{length, getD, take, drop, replicate, length-append, length-drop, take-append-drop}
+use lib.Seq.{drop-at, take-at, drop-drop, take-take, take-add, slice, length-slice}
+use borrow.Author.Tests.{leb-true, ltb-false, eqb-true, le-leb, le-ltb, not-false}
 use Rattle.slices.specs.Choices.{both}
 use Rattle.hypervolume.specs.Cells.{box, dominates}
 use Rattle.slices.proofs.Choices.{both-true, both-intro, both-comm}
 use Rattle.words.specs.Archive.{Trial, point, Row, Shape, reference, Archive, trials}
 use Rattle.words.specs.Format.{guard, within, each, shape-allowed, number-allowed, coordinates-allowed, header-allowed, row-allowed, rows-allowed, ordered, distinct, sound-rows, zeros, unused, records-allowed, archive-rows}
 use Rattle.words.specs.Layout.{header, records, extent, layout, word, read-row, read-rows, read-shape, read, behind}
+use Rattle.words.specs.Places.{Headed}
 use Rattle.words.proofs.Reading.{length-records, length-read-rows, read-rows-at, header-read, records-read, read-layout, length-layout}
 
 -- What a test of the table tells, as bounds, and back.
@@ -146,24 +147,41 @@ unfolding guard
 guard-none true n rest e = absurd (let no : ⊥ = omega arith in no)
 guard-none false n rest e = (refl, e)
 
--- Words in four parts.
-parts : (i j k : ℕ) (w : List ℕ) → w ≡ take i w ++ (take j (drop i w) ++ take k (drop (i + j) w)) ++ drop (i + j + k) w
-parts i j k w =
-    rw (
-      append-assoc (take i w) (take j (drop i w) ++ take k (drop (i + j) w)) (drop (i + j + k) w),
-      append-assoc (take j (drop i w)) (take k (drop (i + j) w)) (drop (i + j + k) w),
-      ← drop-drop k (i + j) w,
-      take-append-drop k (drop (i + j) w),
-      ← drop-drop j i w,
-      take-append-drop j (drop i w),
-      take-append-drop i w,
-    )
+-- What rows 1 and 2 tell of words that they let pass.
+pub record HeaderFacts (w : List ℕ) : Type 0 where
+  pub long : 8 + 5 * word w 1 ≤ length w
+  pub shaped : shape-allowed (read-shape w) ≡ true
+  pub six : word w 6 ≡ 0
+  pub seven : word w 7 ≡ 0
+  pub counted : word w 0 ≤ word w 1
+  pub within-box : word w 5 ≤ box (reference (read-shape w))
 
--- Rows 1 to 3 passed, and then the rows of the call.
+pub header-facts : (w : List ℕ) → Headed w → HeaderFacts w
+unfolding header-allowed extent
+header-facts w h =
+    let shape = both-true _ _ (h .allowed) in
+    let six = both-true _ _ (shape .1) in
+    let seven = both-true _ _ (six .1) in
+    let counted = both-true _ _ (seven .1) in
+    record {
+      long = h .whole;
+      shaped = shape .0;
+      six = eqb-true _ _ (six .0);
+      seven = eqb-true _ _ (seven .0);
+      counted = leb-true _ _ (counted .0);
+      within-box = leb-true _ _ (counted .1);
+    }
+
+-- Once rows 1 and 2 have passed, row 3 decides.
+pub row-3-decides : (w : List ℕ) (rest : ℕ) → Headed w → archive-rows w rest ≡ guard (not (records-allowed w)) 3 rest
+unfolding archive-rows guard
+row-3-decides w rest h =
+    let facts : HeaderFacts w = header-facts w h in
+    rw (le-ltb (length w) 8 (omega arith), h .allowed, le-ltb (length w) (extent (word w 1)) (h .whole))
+
+-- No row turns the words down, and none of the call's own rows, `rest`.
 pub record Unrefused (w : List ℕ) (rest : ℕ) : Type 0 where
-  pub some : ltb (length w) 8 ≡ false
-  pub header : header-allowed w ≡ true
-  pub whole : ltb (length w) (extent (word w 1)) ≡ false
+  pub headed : Headed w
   pub records : records-allowed w ≡ true
   pub call : rest ≡ 0
 
@@ -175,85 +193,50 @@ unrefused w rest e =
     let third = guard-none _ _ _ (second .1) in
     let fourth = guard-none _ _ _ (third .1) in
     record {
-      some = first .0;
-      header = not-false _ (second .0);
-      whole = third .0;
+      headed = record { allowed = not-false _ (second .0); whole = ltb-false _ _ (third .0) };
       records = not-false _ (fourth .0);
       call = fourth .1;
     }
 
--- A call that is done has passed rows 1 to 3 and its own.
 pub passed-both : (w : List ℕ) (rest : ℕ) → archive-rows w rest ≡ 0 → (archive-rows w 0 ≡ 0) × (rest ≡ 0)
-unfolding archive-rows guard
+unfolding guard
 passed-both w rest e =
-    let c : Unrefused w rest = unrefused w rest e in
-    (rw (c .some, c .header, c .whole, c .records), c .call)
+    let u : Unrefused w rest = unrefused w rest e in
+    (row-3-decides w 0 (u .headed) ∙ rw (u .records), u .call)
 
--- The tests of rows 1 to 3, all passed.
-record Tests (w : List ℕ) : Type 0 where
-  long : 8 + 5 * word w 1 ≤ length w
-  shaped : shape-allowed (read-shape w) ≡ true
-  six : word w 6 ≡ 0
-  seven : word w 7 ≡ 0
-  counted : word w 0 ≤ word w 1
-  within-box : word w 5 ≤ box (reference (read-shape w))
-  rows-fit : rows-allowed (read-shape w) (read w .rows) ≡ true
-  in-order : ordered (trials (read w .rows)) ≡ true
-  apart : distinct (trials (read w .rows)) ≡ true
-  unused-zero : zeros (unused w) ≡ true
+-- Words in four parts.
+parts : (i j k : ℕ) (w : List ℕ) → i + j ≤ k → w ≡ take i w ++ (take j (drop i w) ++ slice (i + j) k w) ++ drop k w
+parts i j k w l =
+    let front : take (i + j) (take k w) ≡ take i w ++ take j (drop i w) = take-take (i + j) k w l ∙ take-add i j w in
+    sym (take-append-drop k w)
+    ∙ ap (λ p. p ++ drop k w) (sym (take-append-drop (i + j) (take k w)) ∙ ap (λ p. p ++ slice (i + j) k w) front ∙ append-assoc (take i w) (take j (drop i w)) (slice (i + j) k w))
 
-tests : (w : List ℕ) → archive-rows w 0 ≡ 0 → Tests w
-unfolding header-allowed records-allowed sound-rows extent
-tests w e =
-    let c : Unrefused w 0 = unrefused w 0 e in
-    let shape = both-true _ _ (c .header) in
-    let six = both-true _ _ (shape .1) in
-    let seven = both-true _ _ (six .1) in
-    let counted = both-true _ _ (seven .1) in
-    let records = both-true _ _ (c .records) in
-    let rows = both-true _ _ (records .0) in
-    let order = both-true _ _ (rows .1) in
-    record {
-      long = ltb-false (length w) (8 + 5 * word w 1) (c .whole);
-      shaped = shape .0;
-      six = eqb-true _ _ (six .0);
-      seven = eqb-true _ _ (seven .0);
-      counted = leb-true _ _ (counted .0);
-      within-box = leb-true _ _ (counted .1);
-      rows-fit = rows .0;
-      in-order = order .0;
-      apart = order .1;
-      unused-zero = records .1;
-    }
-
-unused-words : (w : List ℕ) → Tests w → take (5 * (word w 1 - word w 0)) (drop (8 + 5 * word w 0) w) ≡ replicate (5 * (word w 1 - word w 0)) 0
-unfolding unused
-unused-words w t =
-    let enough : 5 * (word w 1 - word w 0) ≤ length (drop (8 + 5 * word w 0) w) =
-    omega (arith, length-drop (8 + 5 * word w 0) w, t .long, t .counted) in
-    replicate-zeros _ (t .unused-zero) ∙ ap (λ n. replicate n 0) (length-take-le _ _ enough)
-
-laid-out : (w : List ℕ) → Tests w → w ≡ layout (read w) ++ behind w
-unfolding layout behind extent read read-shape
-laid-out w t =
+laid-out : (w : List ℕ) → HeaderFacts w → zeros (unused w) ≡ true → w ≡ layout (read w) ++ behind w
+unfolding layout behind extent read read-shape unused
+laid-out w t z =
     let long : 8 + 5 * word w 1 ≤ length w = t .long in
     let counted : word w 0 ≤ word w 1 = t .counted in
-    let last : 8 + 5 * word w 0 + 5 * (word w 1 - word w 0) ≡ 8 + 5 * word w 1 = omega arith in
+    let many : 8 + 5 * word w 1 - (8 + 5 * word w 0) ≡ 5 * (word w 1 - word w 0) = omega arith in
+    let rest : slice (8 + 5 * word w 0) (8 + 5 * word w 1) w ≡ replicate (5 * (word w 1 - word w 0)) 0 =
+    replicate-zeros _ z ∙ ap (λ n. replicate n 0) (length-slice _ _ w long ∙ many) in
     let rows : 5 * word w 0 ≤ length (drop 8 w) = omega (arith, length-drop 8 w) in
     rw (
       length-read-rows (word w 0) (drop 8 w),
       header-read w (omega arith) (t .six) (t .seven),
       records-read (word w 0) (drop 8 w) rows,
-      ← unused-words w t,
-      ← last,
+      ← rest,
     )
-    (parts 8 (5 * word w 0) (5 * (word w 1 - word w 0)) w)
+    (parts 8 (5 * word w 0) (8 + 5 * word w 1) w (omega arith))
 
 -- What passes rows 1 to 3 is the layout of a sound archive, with the words behind.
 pub passed : (w : List ℕ) → archive-rows w 0 ≡ 0 → Passed w
-unfolding read read-shape
+unfolding read read-shape records-allowed sound-rows
 passed w e =
-    let t : Tests w = tests w e in
+    let u : Unrefused w 0 = unrefused w 0 e in
+    let t : HeaderFacts w = header-facts w (u .headed) in
+    let records = both-true _ _ (u .records) in
+    let rows = both-true _ _ (records .0) in
+    let order = both-true _ _ (rows .1) in
     record {
       long = t .long;
       counted = t .counted;
@@ -263,59 +246,37 @@ passed w e =
             shaped = t .shaped;
             within-box = t .within-box;
             held-within = subst (λ n. n ≤ word w 1) (sym (length-read-rows (word w 0) (drop 8 w))) (t .counted);
-            rows-fit = t .rows-fit;
-            in-order = t .in-order;
-            apart = t .apart;
+            rows-fit = rows .0;
+            in-order = order .0;
+            apart = order .1;
           };
-      laid = laid-out w t;
+      laid = laid-out w t (records .1);
     }
 
-tests-pass : (w : List ℕ) (rest : ℕ) → Tests w → archive-rows w rest ≡ rest
-unfolding archive-rows guard header-allowed records-allowed sound-rows extent
-tests-pass w rest t =
-    let long : 8 + 5 * word w 1 ≤ length w = t .long in
-    let header : header-allowed w ≡ true =
-    both-intro _ _ (t .shaped)
-    (both-intro _ _ (eq-eqb _ _ (t .six))
-    (both-intro _ _ (eq-eqb _ _ (t .seven))
-    (both-intro _ _ (le-leb _ _ (t .counted)) (le-leb _ _ (t .within-box))))) in
-    let rows : records-allowed w ≡ true =
-    both-intro _ _ (both-intro _ _ (t .rows-fit) (both-intro _ _ (t .in-order) (t .apart))) (t .unused-zero) in
-    rw (le-ltb (length w) 8 (omega arith), header, le-ltb (length w) (8 + 5 * word w 1) long, rows)
-
-middle : (p q r : List ℕ) (i n : ℕ) → length p ≡ i → length q ≡ n → take n (drop i (p ++ (q ++ r))) ≡ q
-middle p q r i n l m = rw (drop-at p (q ++ r) i l) (take-at q r n m)
-
 -- The unused words of a layout.
-unused-layout : (a : Archive) (b : List ℕ) → unused (layout a ++ b) ≡ replicate (5 * (a .shape .capacity - length (a .rows))) 0
+unused-layout : (a : Archive) (b : List ℕ) → length (a .rows) ≤ a .shape .capacity
+    → unused (layout a ++ b) ≡ replicate (5 * (a .shape .capacity - length (a .rows))) 0
 unfolding unused layout header
-unused-layout a b =
-    let n : ℕ = 5 * (a .shape .capacity - length (a .rows)) in
+unused-layout a b l =
     let before : length (header a ++ records (a .rows)) ≡ 8 + 5 * length (a .rows) =
     omega (arith, length-records (a .rows)) in
-    rw (append-assoc (records (a .rows)) (replicate n 0) b)
-    (middle (header a ++ records (a .rows)) (replicate n 0) b _ n before (length-replicate n 0))
+    ap (drop (8 + 5 * length (a .rows))) (take-at (layout a) b (extent (a .shape .capacity)) (length-layout a l))
+    ∙ drop-at (header a ++ records (a .rows)) _ (8 + 5 * length (a .rows)) before
 
 -- The layout of a sound archive passes rows 1 to 3, whatever lies behind it.
 pub sound-passes : (a : Archive) (b : List ℕ) (rest : ℕ) → Sound a → archive-rows (layout a ++ b) rest ≡ rest
-unfolding layout header read-shape extent
+unfolding layout header read-shape extent header-allowed records-allowed sound-rows guard
 sound-passes a b rest s =
     let rows : read (layout a ++ b) .rows ≡ a .rows = ap (λ r. r .rows) (read-layout a b) in
     let whole : length (layout a ++ b) ≡ 8 + 5 * a .shape .capacity + length b =
     length-append (layout a) b ∙ ap (λ n. n + length b) (length-layout a (s .held-within)) in
-    tests-pass (layout a ++ b) rest
-    (record {
-      long = omega arith;
-      shaped = s .shaped;
-      six = refl;
-      seven = refl;
-      counted = s .held-within;
-      within-box = s .within-box;
-      rows-fit = rw rows (s .rows-fit);
-      in-order = rw rows (s .in-order);
-      apart = rw rows (s .apart);
-      unused-zero = rw (unused-layout a b) (zeros-replicate (5 * (a .shape .capacity - length (a .rows))));
-    })
+    let allowed : header-allowed (layout a ++ b) ≡ true =
+    both-intro _ _ (s .shaped)
+    (both-intro _ _ refl (both-intro _ _ refl (both-intro _ _ (le-leb _ _ (s .held-within)) (le-leb _ _ (s .within-box))))) in
+    let records : records-allowed (layout a ++ b) ≡ true =
+    both-intro _ _ (rw rows (both-intro _ _ (s .rows-fit) (both-intro _ _ (s .in-order) (s .apart))))
+    (rw (unused-layout a b (s .held-within)) (zeros-replicate (5 * (a .shape .capacity - length (a .rows))))) in
+    row-3-decides (layout a ++ b) rest (record { allowed = allowed; whole = omega arith }) ∙ rw records
 
 -- Words that have passed pass whatever rows a call adds.
 pub passes-again : (w : List ℕ) (rest : ℕ) → Passed w → archive-rows w rest ≡ rest

@@ -42,4 +42,4 @@ part-short w n rest e l =
     go false (above m) more =
         let enough : 8 ≤ n = omega (arith, size) in
         let short : length (take n w) < extent (word w 1) = omega (arith, size) in
-        rw (part-header n w enough, unrefused w 0 e .header, getD-take n w 1 0 (omega arith), lt-ltb (length (take n w)) (extent (word w 1)) short)
+        rw (part-header n w enough, unrefused w 0 e .headed .allowed, getD-take n w 1 0 (omega arith), lt-ltb (length (take n w)) (extent (word w 1)) short)

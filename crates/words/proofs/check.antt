@@ -1,9 +1,7 @@
 -- Laws that the proofs of the check use, each file named after the code that it serves.
-mod BothLaws
 mod BoxOf
 mod HeaderAllowed
 mod MarkLaws
-mod RecordsAllowed
 mod RefusalLaws
 mod RowsAllowed
 mod StandsLaws

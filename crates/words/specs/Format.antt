@@ -1,10 +1,11 @@
 -- Rows 1 to 3 of the table of refusals (document 01, "Where each call is turned down"): what words must be to be
 -- read as an archive. The same for every call on an archive slice but start and the card reader.
-use Prim.Native.Nat.{ℕ, _+_, _-_, _*_}
+use Prim.Native.Nat.{ℕ, _+_, _*_}
 use mathlib.Core.Bool.{Bool, true, false, not}
 use mathlib.Core.List.{List, _∷_, []}
 use lib.Dec.{leb, ltb, eqb}
-use lib.ListN.{length, take, drop}
+use lib.ListN.{length}
+use lib.Seq.{slice}
 use Rattle.slices.specs.Choices.{both, either}
 use Rattle.hypervolume.specs.Cells.{box, dominates}
 use Rattle.words.specs.Archive.{Trial, Row, Shape, point, reference, trials, before}
@@ -81,7 +82,7 @@ zeros l = each (λ n. eqb n 0) l
 
 -- The words of unused records: behind the records, before the extent.
 unfoldable pub unused : List ℕ → List ℕ
-unused w = take (5 * (word w 1 - word w 0)) (drop (8 + 5 * word w 0) w)
+unused w = slice (8 + 5 * word w 0) (extent (word w 1)) w
 
 -- Row 3.
 unfoldable pub records-allowed : List ℕ → Bool

@@ -3,15 +3,13 @@ use Prim.Native.Nat.{ℕ, _+_, _*_, _≤_, _<_}
 use mathlib.Core.Path.{_≡_, sym, _∙_}
 use mathlib.Core.Bool.{Bool, true, false, not}
 use mathlib.Core.List.{List}
-use native.Mathlib.Omega.{arith}
 use lib.ListN.{length}
 use borrow.Author.Tests.{lt-ltb, le-ltb, not-false}
 use Rattle.slices.proofs.Choices.{both-true}
 use Rattle.words.specs.Format.{guard, header-allowed, records-allowed, archive-rows}
 use Rattle.words.specs.Layout.{extent, word, read-shape}
 use Rattle.words.specs.Places.{Headed}
-use Rattle.words.proofs.Passed.{shape-bounds}
-use Rattle.words.proofs.check.HeaderAllowed.{HeaderFacts, header-facts}
+use Rattle.words.proofs.Passed.{shape-bounds, row-3-decides}
 
 -- What the code knows once header_allowed has answered.
 pub headed : (w : List ℕ) (t : Bool) → t ≡ header-allowed w → not t ≡ false → 8 + 5 * word w 1 ≤ length w → Headed w
@@ -35,17 +33,10 @@ pub by-row-1-behind : (w : List ℕ) (t : Bool) → 8 ≤ length w → t ≡ hea
 unfolding archive-rows guard extent
 by-row-1-behind w t l e n m = rw (le-ltb (length w) 8 l, ← e, n, lt-ltb (length w) (8 + 5 * word w 1) m)
 
--- Once rows 1 and 2 have passed, row 3 decides.
-row-3-decides : (w : List ℕ) → Headed w → guard (not (records-allowed w)) 3 0 ≡ archive-rows w 0
-unfolding archive-rows guard
-row-3-decides w h =
-    let facts : HeaderFacts w = header-facts w h in
-    rw (le-ltb (length w) 8 (omega arith), h .allowed, le-ltb (length w) (extent (word w 1)) (h .whole))
-
 pub by-row-3 : (w : List ℕ) (t : Bool) → Headed w → t ≡ records-allowed w → not t ≡ true → _≡_ {A = ℕ} 3 (archive-rows w 0)
 unfolding guard
-by-row-3 w t h e n = rw (← e, n) at (row-3-decides w h)
+by-row-3 w t h e n = rw (← e, n) at (sym (row-3-decides w 0 h))
 
 pub by-no-row : (w : List ℕ) (t : Bool) → Headed w → t ≡ records-allowed w → not t ≡ false → _≡_ {A = ℕ} 0 (archive-rows w 0)
 unfolding guard
-by-no-row w t h e n = rw (← e, n) at (row-3-decides w h)
+by-no-row w t h e n = rw (← e, n) at (sym (row-3-decides w 0 h))

@@ -17,11 +17,10 @@ use Rattle.words.specs.Layout.{word, read-rows, read-shape, read}
 use Rattle.words.specs.Places.{row-at, rows-before, follows, repeated, stands, AtPlace, Headed}
 use Rattle.words.specs.Table.{marked, Marking}
 use Rattle.words.proofs.Held.{held-nowhere}
-use Rattle.words.proofs.Passed.{passed}
+use Rattle.words.proofs.Passed.{HeaderFacts, header-facts, passed}
 use Rattle.words.proofs.Places.{row-at-number, rows-before-at, rows-before-more}
 use Rattle.words.proofs.Reading.{length-read-rows, read-rows-append}
 use Rattle.words.proofs.SoundRows.{trials-append, rows-allowed-append, distinct-snoc, ordered-snoc, sound-rows-part}
-use Rattle.words.proofs.check.HeaderAllowed.{HeaderFacts, header-facts}
 
 -- One record more.
 trials-more : (w : List ℕ) (i : ℕ) → trials (rows-before w (i + 1)) ≡ trials (rows-before w i) ++ (row-at w i .trial ∷ [])

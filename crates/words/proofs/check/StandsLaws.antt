@@ -4,7 +4,7 @@ use mathlib.Core.Path.{_≡_, sym, ap, _∙_}
 use mathlib.Core.Bool.{Bool, true, false, not}
 use mathlib.Core.List.{List}
 use lib.Dec.{leb, ltb}
-use borrow.Author.Tests.{lt-ltb, le-ltb}
+use borrow.Author.Tests.{lt-ltb, le-ltb, not-true, not-false}
 use Rattle.slices.specs.Choices.{both}
 use Rattle.hypervolume.proofs.Tests.{Compared, below, above, compared}
 use Rattle.slices.proofs.Choices.{both-assoc}
@@ -12,7 +12,15 @@ use Rattle.words.specs.Archive.{Row, Shape}
 use Rattle.words.specs.Format.{row-allowed}
 use Rattle.words.specs.Layout.{read-shape}
 use Rattle.words.specs.Places.{row-at, follows, repeated, stands, Found}
-use Rattle.words.proofs.check.BothLaws.{first-passed}
+
+-- The first of two tests decides, or leaves it to the second.
+pub first-failed : (b q s : Bool) → both b q ≡ s → not b ≡ true → false ≡ s
+unfolding both
+first-failed b q s e n = rw (not-true b n) at e
+
+pub first-passed : (b q s : Bool) → both b q ≡ s → not b ≡ false → q ≡ s
+unfolding both
+first-passed b q s e n = rw (not-false b n) at e
 
 pub stands-test : (w : List ℕ) (i : ℕ) (s : Shape) (r : Row) (a f b : Bool) → s ≡ read-shape w → r ≡ row-at w i
     → a ≡ row-allowed s r → f ≡ follows w i → b ≡ both a f

@@ -1,15 +1,15 @@
 -- The loop of zeros: a disjunction of words is zero where each word is.
-use Prim.Native.Nat.{ℕ, suc, _+_, _-_, _≤_, _<_}
+use Prim.Native.Nat.{ℕ, suc, _+_, _≤_, _<_}
 use mathlib.Core.Path.{_≡_, refl, sym, ap, _∙_}
 use mathlib.Core.Bool.{Bool, true, false}
-use mathlib.Core.List.{List, _∷_}
+use mathlib.Core.List.{List}
 use native.Mathlib.Nat.{le-refl}
 use native.Mathlib.Numerals.{add-one}
 use native.Mathlib.Omega.{arith}
 use lib.Bits.{bitOr, or-zero-l, or-add-and, and-le-l, and-le-r}
 use lib.Dec.{eqb}
-use lib.ListN.{length, take, drop}
-use lib.Seq.{drop-cons}
+use lib.ListN.{length}
+use lib.Seq.{slice, slice-cons, slice-empty}
 use borrow.Author.Tests.{eq-eqb, ne-eqb}
 use Rattle.slices.specs.Choices.{both}
 use Rattle.hypervolume.proofs.Tests.{Equated, same, differs, equated}
@@ -33,7 +33,7 @@ pub record Blended (w : List ℕ) (from to any i : ℕ) : Type 0 where
   pub low : from ≤ i
   pub high : i ≤ to
   pub inside : to ≤ length w
-  pub left : both (eqb any 0) (zeros (take (to - i) (drop i w))) ≡ zeros (take (to - from) (drop from w))
+  pub left : both (eqb any 0) (zeros (slice i to w)) ≡ zeros (slice from to w)
 
 pub blended-none : (w : List ℕ) (from to : ℕ) → from ≤ to → to ≤ length w → Blended w from to 0 from
 unfolding both
@@ -42,23 +42,19 @@ blended-none w from to l m = record { low = le-refl from; high = l; inside = m; 
 pub blended-more : (w : List ℕ) (from to any i : ℕ) → Blended w from to any i → i < to → Blended w from to (bitOr any (word w i)) (i + 1)
 unfolding zeros each
 blended-more w from to any i g l =
-    let inside : to ≤ length w = g .inside in
-    let fewer : to - i ≡ suc (to - suc i) = omega arith in
-    let more : take (to - i) (drop i w) ≡ word w i ∷ take (to - suc i) (drop (suc i) w) =
-    rw (drop-cons w i 0 (omega arith), fewer) in
     record {
       low = omega arith;
       high = omega arith;
       inside = g .inside;
       left =
           rw (add-one i, or-zero any (word w i))
-          (both-assoc (eqb any 0) (eqb (word w i) 0) (zeros (take (to - suc i) (drop (suc i) w)))
-          ∙ ap (λ ws. both (eqb any 0) (zeros ws)) (sym more)
+          (both-assoc (eqb any 0) (eqb (word w i) 0) (zeros (slice (suc i) to w))
+          ∙ ap (λ ws. both (eqb any 0) (zeros ws)) (sym (slice-cons i to w 0 l (g .inside)))
           ∙ g .left);
     }
 
-pub blended-end : (w : List ℕ) (from to any i : ℕ) → Blended w from to any i → to ≤ i → eqb any 0 ≡ zeros (take (to - from) (drop from w))
+pub blended-end : (w : List ℕ) (from to any i : ℕ) → Blended w from to any i → to ≤ i → eqb any 0 ≡ zeros (slice from to w)
 unfolding zeros each both
 blended-end w from to any i g l =
-    let end : to - i ≡ 0 = omega arith in
-    both-comm true (eqb any 0) ∙ (rw end at (g .left))
+    let end : i ≡ to = omega arith in
+    both-comm true (eqb any 0) ∙ ap (λ ws. both (eqb any 0) (zeros ws)) (sym (slice-empty to w)) ∙ (rw end at (g .left))

@@ -4,7 +4,7 @@ use Prim.Native.Nat.{_-_}
 use mathlib.Core.Path.{_∙_, ap, refl, sym}
 use native.Mathlib.Omega.{arith}
 use Rattle.words.specs.Format.{shape-allowed}
-use Rattle.words.proofs.check.HeaderAllowed.{header-facts}
+use Rattle.words.proofs.Passed.{header-facts}
 use Rattle.words.proofs.check.RowsAllowed.{Checked, checked-none, checked-more, checked-place, checked-stop, checked-end}
 use Rattle.words.proofs.check.rows_allowed.Statement.{statement}
 use Rattle.words.proofs.check.rows_allowed.Tie as tie
