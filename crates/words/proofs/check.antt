@@ -1,8 +1,6 @@
 -- Laws that the proofs of the check use, each file named after the code that it serves.
 mod BoxOf
-mod HeaderAllowed
 mod MarkLaws
-mod RefusalLaws
 mod RowsAllowed
 mod StandsLaws
 mod ZerosLaws
