@@ -1,5 +1,4 @@
 -- Laws that the proofs of the check use, each file named after the code that it serves.
-mod BoxOf
 mod MarkLaws
 mod RowsAllowed
 mod StandsLaws
