@@ -5,7 +5,7 @@ use mathlib.Core.Bool.{true}
 use mathlib.Core.List.{List, _∷_, _++_, []}
 use native.Mathlib.Decide.{decLt}
 use native.Mathlib.Omega.{arith}
-use lib.ListN.{length, getD, take, drop, length-append, length-take, length-drop}
+use lib.ListN.{length, getD, take, drop, length-append, length-take, length-drop, List·getD-append}
 use lib.Seq.{take-at}
 use Rattle.slices.proofs.Choices.{both-true, both-intro}
 use Rattle.hypervolume.specs.Counts.{total, contributions, gain, joints}
@@ -14,7 +14,7 @@ use Rattle.words.specs.Archive.{Trial, Row, Shape, point, reference, trials, po
 use Rattle.words.specs.Layout.{record-words, read-row, read, read-shape, word}
 use Rattle.words.specs.Format.{archive-rows, row-allowed, rows-allowed, ordered, distinct, coordinates-allowed}
 use Rattle.words.specs.Places.{rows-before, row-at}
-use Rattle.words.proofs.Passed.{passed, ShapeBounds, RowBounds, row-bounds, shape-bounds, passed-row}
+use Rattle.words.proofs.Passed.{passed, ShapeBounds, RowBounds, row-bounds, shape-bounds, passed-row, coordinates-small}
 use Rattle.slices.specs.Put.{put}
 use Rattle.slices.proofs.Put.{put-front}
 use Rattle.calls.specs.Calls.{others}
@@ -39,10 +39,8 @@ Low k r = field-of k r ≤ 1048576
 
 low-fields : (s : Shape) (r : Row) (k : ℕ) → ShapeBounds s → RowBounds s r → k < 3 → Low (suc k) r
 unfolding field-of record-words
-low-fields s r zero h b l = omega arith
-low-fields s r (suc zero) h b l = omega arith
-low-fields s r (suc (suc zero)) h b l = omega arith
-low-fields s r (suc (suc (suc k))) h b l = absurd (let no′ : ⊥ = omega arith in no′)
+low-fields s r k h b l =
+    rw (List·getD-append (point (r .trial)) (r .kept ∷ []) 0 k l) (coordinates-small s (r .trial) h (b .coordinates) k)
 
 column-small : (s : Shape) (rows : List Row) (k : ℕ) → ShapeBounds s → rows-allowed s rows ≡ true → k < 3 → Small (column (suc k) rows)
 unfolding column rows-allowed
@@ -94,10 +92,7 @@ left-fewer rows k =
     omega arith
 
 pub reference-small : (s : Shape) → ShapeBounds s → Small (reference s)
-reference-small s h zero = omega arith
-reference-small s h (suc zero) = omega arith
-reference-small s h (suc (suc zero)) = omega arith
-reference-small s h (suc (suc (suc k))) = zero-le
+reference-small s h = h .reference-high
 
 -- What the sweep asks, of the records but one.
 pub columns-ready : (w out : List ℕ) (k : ℕ) → archive-rows w 0 ≡ 0 → k ≤ word w 0 → 512 ≤ length out → (R : List Row) → R ≡ leave-out k (rows-before w (word w 0)) → Ready (column 1 R) (column 2 R) (column 3 R) (reference (read-shape w)) out
@@ -199,25 +194,9 @@ all-counted {w} {m} {xs} {ys} {zs} {r} before after answer c g e =
 
 -- Coordinates that are allowed are at most 1,048,576.
 pub allowed-small : (w : List ℕ) (t : Trial) → archive-rows w 0 ≡ 0 → coordinates-allowed (read w .shape) t ≡ true → Small (point t)
-unfolding coordinates-allowed
-allowed-small w t p e zero =
-    let s = shape-bounds (read w .shape) (known w p .sound .shaped) in
-    omega (arith, s, leb-true (t .x) (read w .shape .rx) (both-true _ _ e .0))
-allowed-small w t p e (suc zero) =
-    let s = shape-bounds (read w .shape) (known w p .sound .shaped) in
-    omega (arith, s, leb-true (t .y) (read w .shape .ry) (both-true _ _ (both-true _ _ e .1) .0))
-allowed-small w t p e (suc (suc zero)) =
-    let s = shape-bounds (read w .shape) (known w p .sound .shaped) in
-    omega (arith, s, leb-true (t .z) (read w .shape .rz) (both-true _ _ (both-true _ _ e .1) .1))
-allowed-small w t p e (suc (suc (suc k))) = zero-le
+allowed-small w t p e = coordinates-small (read w .shape) t (shape-bounds (read w .shape) (known w p .sound .shaped)) e
 
 -- No coordinate of a held trial is above 1,048,576.
 pub held-small : (w : List ℕ) (i : ℕ) → archive-rows w 0 ≡ 0 → i < word w 0 → Small (point (row-at w i .trial))
 unfolding row-at
-held-small w i p l zero =
-    let r = passed-row w (passed w p) i l in let s = passed w p .bounds in omega arith
-held-small w i p l (suc zero) =
-    let r = passed-row w (passed w p) i l in let s = passed w p .bounds in omega arith
-held-small w i p l (suc (suc zero)) =
-    let r = passed-row w (passed w p) i l in let s = passed w p .bounds in omega arith
-held-small w i p l (suc (suc (suc k))) = zero-le
+held-small w i p l = coordinates-small (read-shape w) (row-at w i .trial) (passed w p .bounds) (passed-row w (passed w p) i l .coordinates)

@@ -8,8 +8,7 @@ use Rattle.words.specs.Archive.{Trial, Archive}
 use Rattle.words.specs.Layout.{layout, read, behind}
 use Rattle.words.specs.Format.{archive-rows}
 use Rattle.words.proofs.Reading.{read-layout}
-use Rattle.words.proofs.Passed.{Passed, passed, Sound, sound-passes}
-use Rattle.words.proofs.Lent.{passed-both}
+use Rattle.words.proofs.Passed.{Passed, passed, Sound, sound-passes, passed-both}
 use Rattle.calls.specs.Calls.{inserted, insert-rows, removed, remove-rows, after-drops, notes, reduce-rows}
 use Rattle.calls.specs.Lent.{Outcome, leaves, insert, remove, reduce}
 

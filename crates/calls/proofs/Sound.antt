@@ -86,9 +86,7 @@ kept-bounds s r k b l =
     record {
       number-low = b .number-low;
       number-high = b .number-high;
-      x-high = b .x-high;
-      y-high = b .y-high;
-      z-high = b .z-high;
+      coordinates = b .coordinates;
       kept-high = l;
     }
 

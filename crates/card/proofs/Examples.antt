@@ -11,7 +11,7 @@ use Rattle.text.specs.Lines.{four, line}
 use Rattle.text.specs.Columns.{digits, justified, lineOf}
 use Rattle.words.specs.Archive.{Archive, trials, points, ascends, before}
 use Rattle.words.specs.Layout.{extent}
-use Rattle.words.specs.Format.{guard, within, shape-allowed, number-allowed, coordinates-allowed, held}
+use Rattle.words.specs.Format.{guard, within, each, shape-allowed, number-allowed, coordinates-allowed, held}
 use Rattle.words.proofs.Reading.{read-layout}
 use Rattle.calls.specs.Calls.{empty, place, insert-gain, joint-with, lowered, inserted, admission-rows}
 use Rattle.card.specs.Card.{shape-on, trial-on, line-count, lines-from, lines, accepted}
@@ -38,7 +38,7 @@ example =
 judged-example : judge 2568 (lines example-card) ≡ archive example
 unfolding judge judge-further in-turn shape-rows shape-on trial-on lines lines-from line-count line four fieldFrom field
     number decimal choose isDigit lineOf justified digits example-card example
-    empty place insert-gain joint-with lowered inserted admission-rows guard within shape-allowed number-allowed
+    empty place insert-gain joint-with lowered inserted admission-rows guard within each shape-allowed number-allowed
     coordinates-allowed held extent trials points pick either ascends before cover joint gain both holds dominates sum cells count
 judged-example = refl
 

@@ -14,7 +14,7 @@ use Rattle.text.proofs.Columns.{length-justified, justified-injective}
 use Rattle.words.specs.Archive.{Row, Shape, Archive}
 use Rattle.words.specs.Layout.{read}
 use Rattle.words.specs.Format.{archive-rows, rows-allowed}
-use Rattle.words.proofs.Passed.{passed, Sound, ShapeBounds, shape-bounds, RowBounds, row-bounds, box-bound}
+use Rattle.words.proofs.Passed.{passed, Sound, ShapeBounds, shape-bounds, RowBounds, row-bounds, box-bound, coordinates-small}
 use Rattle.card.specs.Report.{report-line, head-line, record-line, record-lines, report-text}
 use Rattle.card.specs.Theorems.{ReportedAlike}
 
@@ -53,14 +53,15 @@ row-shown : (s : Shape) → ShapeBounds s → (r : Row) → RowBounds s r
     → Shown (r .trial .number) (r .trial .x) (r .trial .y) (r .trial .z) (r .kept)
 row-shown s b r h =
     let kept : r .kept ≤ 2 ^ 60 = le-trans (h .kept-high) (box-bound s b) in
-    record { first = omega arith; second = omega arith; third = omega arith; fourth = omega arith; last = lt-of-le-of-lt kept (lit< tt) }
+    let small = coordinates-small s (r .trial) b (h .coordinates) in
+    record { first = omega arith; second = omega (arith, small 0); third = omega (arith, small 1); fourth = omega (arith, small 2); last = lt-of-le-of-lt kept (lit< tt) }
 
 head-shown : (a : Archive) → Sound a → Shown (length (a .rows)) (a .shape .rx) (a .shape .ry) (a .shape .rz) (a .sum)
 head-shown a s =
     let b : ShapeBounds (a .shape) = shape-bounds (a .shape) (s .shaped) in
     let held : length (a .rows) ≤ a .shape .capacity = s .held-within in
     let sum : a .sum ≤ 2 ^ 60 = le-trans (s .within-box) (box-bound (a .shape) b) in
-    record { first = omega arith; second = omega arith; third = omega arith; fourth = omega arith; last = lt-of-le-of-lt sum (lit< tt) }
+    record { first = omega arith; second = omega (arith, b .reference-high 0); third = omega (arith, b .reference-high 1); fourth = omega (arith, b .reference-high 2); last = lt-of-le-of-lt sum (lit< tt) }
 
 rows-back : (s t : Shape) → ShapeBounds s → ShapeBounds t → (rows others : List Row) → length rows ≡ length others
     → rows-allowed s rows ≡ true → rows-allowed t others ≡ true → record-lines rows ≡ record-lines others → rows ≡ others

@@ -18,7 +18,8 @@ use Rattle.slices.specs.Choices.{pick, either}
 use Rattle.words.specs.Format.{held, distinct}
 use Rattle.calls.specs.Calls.{place, others}
 use Rattle.calls.proofs.Members.{map-map, map-id, place-length, place-member, member-place, place-cover}
-use Rattle.calls.proofs.Order.{Ascending, ascending-place, held-place, distinct-place, before-trans, eqb-sym, others-trial}
+use Rattle.calls.proofs.Order.{Ascending, ascending-place, held-place, distinct-place, before-trans, others-trial}
+use Rattle.words.proofs.Held.{eqb-sym}
 use Rattle.history.specs.Book.{has, struck-out}
 use Rattle.history.specs.History.{sorted}
 

@@ -10,7 +10,7 @@ use Rattle.hypervolume.specs.Counts.{cover, total, contribution, joint, gain}
 use Rattle.hypervolume.proofs.Counting.{gain-first}
 use Rattle.words.specs.Archive.{Trial, Shape, Archive, trials, points, ascends, before}
 use Rattle.words.specs.Layout.{header, record-words, records, extent, layout, read-row, read-rows, read-shape, read, behind}
-use Rattle.words.specs.Format.{guard, within, shape-allowed, number-allowed, coordinates-allowed, header-allowed, row-allowed, rows-allowed, ordered, held, distinct, zeros, unused, records-allowed, archive-rows}
+use Rattle.words.specs.Format.{guard, within, shape-allowed, number-allowed, coordinates-allowed, header-allowed, row-allowed, rows-allowed, ordered, held, distinct, zeros, unused, records-allowed, archive-rows, each, sound-rows}
 use Rattle.calls.specs.Calls.{empty, place, insert-gain, joint-with, lowered, inserted, falls-below, insert-overruns, insert-rows, admission-rows, row-of, others, without, removal-loss, raised, removed, exceeds, remove-overruns, remove-rows, goes-first, least-from, least-row, least-rows, joint-of, joint-rows, gain-rows, share-of, rows-counted, audited, dropped, note, after-drops, notes, reduce-rows}
 use Rattle.calls.specs.Lent
 use Rattle.history.specs.Stars.{Line, step-words, step-answer, answers, asked, Star, star, Met, AllMet, usual, done, small, largest, stars}
@@ -21,8 +21,8 @@ unfolding AllMet Met small usual done answers asked step-answer step-words Lent.
     Lent.least-answer empty place insert-gain joint-with lowered inserted falls-below insert-overruns insert-rows admission-rows
     row-of others without removal-loss raised removed exceeds remove-overruns remove-rows goes-first least-from
     least-row least-rows joint-of joint-rows gain-rows share-of rows-counted audited dropped note after-drops notes
-    reduce-rows guard within shape-allowed number-allowed coordinates-allowed header-allowed row-allowed rows-allowed
-    ordered held distinct zeros unused records-allowed archive-rows header record-words records extent layout read-row
+    reduce-rows guard within each shape-allowed number-allowed coordinates-allowed header-allowed row-allowed rows-allowed
+    ordered held distinct sound-rows zeros unused records-allowed archive-rows header record-words records extent layout read-row
     read-rows read-shape read behind trials points pick either ascends before cover total contribution joint gain both
     holds dominates sum cells count box
 small-met = (refl, (refl, (refl, (refl, (refl, (refl, (refl, (refl, (refl, tt)))))))))
@@ -41,7 +41,7 @@ fresh-words : List ℕ
 fresh-words = Lent.start (replicate (extent 8) 0) far .words
 
 reads : read fresh-words ≡ empty far
-unfolding fresh-words read Lent.start Lent.start-rows Lent.leaves guard within shape-allowed extent both layout
+unfolding fresh-words read Lent.start Lent.start-rows Lent.leaves guard within shape-allowed each extent both layout
     header records empty read-shape read-rows far
 reads = refl
 
@@ -60,17 +60,17 @@ no-overrun = rw all-cells (unfold empty far in refl)
 
 no-row : insert-rows (empty far) origin ≡ 0
 unfolding insert-rows admission-rows
-no-row = rw no-overrun (unfold guard within number-allowed coordinates-allowed both held trials empty far origin in refl)
+no-row = rw no-overrun (unfold guard within number-allowed coordinates-allowed dominates both held trials empty far origin in refl)
 
 well-formed : archive-rows fresh-words 0 ≡ 0
-unfolding fresh-words read Lent.start Lent.start-rows Lent.leaves guard within shape-allowed extent both layout
-    header records empty read-shape read-rows far archive-rows header-allowed records-allowed rows-allowed ordered
+unfolding fresh-words read Lent.start Lent.start-rows Lent.leaves guard within shape-allowed each extent both layout
+    header records empty read-shape read-rows far archive-rows header-allowed records-allowed sound-rows rows-allowed ordered
     distinct zeros unused trials box
 well-formed = refl
 
 first : Lent.insert fresh-words origin ≡ record { refusal = 0; value = 0; words = layout alone ++ []; log = [] }
 unfolding Lent.insert
-first = rw (reads, no-row, well-formed, takes-it) (unfold Lent.leaves behind fresh-words Lent.start Lent.start-rows guard within shape-allowed extent both layout header records empty far in refl)
+first = rw (reads, no-row, well-formed, takes-it) (unfold Lent.leaves behind fresh-words Lent.start Lent.start-rows guard within shape-allowed each extent both layout header records empty far in refl)
 
 -- the lines of the row after the insertion
 behind-first : Star → List Line
@@ -78,10 +78,10 @@ behind-first (star s []) = []
 behind-first (star s (line ∷ lines)) = lines
 
 later-met : answers (layout alone ++ []) (behind-first largest) ≡ asked (behind-first largest)
-unfolding behind-first largest answers asked step-answer step-words Lent.insert Lent.leaves guard within
+unfolding behind-first largest answers asked step-answer step-words Lent.insert Lent.leaves guard within each
     shape-allowed number-allowed coordinates-allowed header-allowed row-allowed rows-allowed ordered held distinct
-    zeros unused records-allowed archive-rows insert-rows admission-rows header record-words records extent layout read-row read-rows
-    read-shape read behind trials either both box alone far origin
+    sound-rows zeros unused records-allowed archive-rows insert-rows admission-rows header record-words records extent layout read-row read-rows
+    read-shape read behind trials either both dominates box alone far origin
 later-met = refl
 
 largest-met : Met largest

@@ -16,8 +16,8 @@ use Rattle.words.specs.Archive.{Trial, Shape, Archive}
 use Rattle.words.specs.Layout.{header, layout, extent, word, read, behind}
 use Rattle.words.specs.Format.{guard, within, number-allowed, coordinates-allowed, held, archive-rows}
 use Rattle.words.proofs.Reading.{read-layout, length-layout, behind-layout}
-use Rattle.words.proofs.Passed.{Sound, sound-passes}
-use Rattle.words.proofs.Lent.{part-short}
+use Rattle.words.proofs.Passed.{Sound, sound-passes, coordinates-by-axis}
+use Rattle.words.proofs.Short.{part-short}
 use Rattle.calls.specs.Calls.{held-trials, inserted, insert-overruns, admission-rows, insert-rows, removed, remove-overruns, remove-rows, audited, after-drops, notes, reduce-rows}
 use Rattle.calls.specs.Counted.{counted}
 use Rattle.calls.proofs.Members.{split}
@@ -86,9 +86,10 @@ row-5 n = not-both (leb 1 n) (leb n 9999999) ∙ rw (not-leb 1 n, not-leb n 9999
 
 row-6 : (b : Book) (t : Trial)
     → not (coordinates-allowed (fresh-archive b .shape) t) ≡ either (ltb (b .rx) (t .x)) (either (ltb (b .ry) (t .y)) (ltb (b .rz) (t .z)))
-unfolding coordinates-allowed fresh-archive counted shape-of-book
+unfolding fresh-archive counted shape-of-book
 row-6 b t =
-    not-both (leb (t .x) (b .rx)) (both (leb (t .y) (b .ry)) (leb (t .z) (b .rz)))
+    ap not (coordinates-by-axis (fresh-archive b .shape) t)
+    ∙ not-both (leb (t .x) (b .rx)) (both (leb (t .y) (b .ry)) (leb (t .z) (b .rz)))
     ∙ rw (not-both (leb (t .y) (b .ry)) (leb (t .z) (b .rz)), not-leb (t .x) (b .rx), not-leb (t .y) (b .ry), not-leb (t .z) (b .rz))
 
 row-7 : (n : ℕ) (b : Book) → held n (held-trials (fresh-archive b)) ≡ has n (b .trials)

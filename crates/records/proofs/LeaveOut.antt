@@ -14,7 +14,7 @@ use lib.Dec.{eqb}
 use borrow.Author.Tests.{eq-eqb, ne-eqb, not-true}
 use Rattle.slices.proofs.Choices.{both-true}
 use Rattle.words.specs.Format.{held, distinct}
-use Rattle.words.proofs.Lists.{held-at}
+use Rattle.words.proofs.Held.{held-at}
 
 -- The records but one that is none: all.
 pub leave-none : (rows : List Row) (m : ℕ) → length rows ≤ m → leave-out m rows ≡ rows

@@ -1,22 +1,23 @@
 -- What words that pass rows 1 to 3 are: the layout of a sound archive with the words behind it. And back: the
 -- layout of a sound archive passes, whatever lies behind it.
-use Prim.Native.Nat.{ℕ, zero, suc, _+_, _-_, _*_, _^_, _≤_, _<_}
+use Prim.Native.Nat.{ℕ, zero, suc, _+_, _-_, _*_, _^_, _≤_, _<_, zero-le}
 use mathlib.Core.Path.{_≡_, refl, sym, ap, _∙_, subst}
 use mathlib.Core.Bool.{Bool, true, false, not}
 use mathlib.Core.List.{List, _∷_, _++_, append-assoc, []}
-use native.Mathlib.Nat.{le-refl, le-trans, lt-of-le-of-lt, mul-le-mul, mul-one}
+use native.Mathlib.Nat.{le-refl, le-trans, mul-le-mul}
 use native.Mathlib.Omega.{arith}
-use lib.Dec.{leb, ltb, lit<, lit≤}
-use lib.ListN.{length, getD, take, drop, replicate, length-append, length-drop, length-replicate, take-append-drop}
-use lib.Seq.{drop-at, take-at, drop-drop, length-take-le}
-use borrow.Author.Tests.{leb-true, ltb-false, eqb-true, le-leb, le-ltb, eq-eqb, not-false}
+use lib.Dec.{leb, ltb, lit≤}
+use lib.ListN.{length, getD, take, drop, replicate, length-append, length-drop, take-append-drop}
+use lib.Seq.{drop-at, take-at, drop-drop, take-take, take-add, slice, length-slice}
+use borrow.Author.Tests.{leb-true, ltb-false, eqb-true, le-leb, le-ltb, not-false}
 use Rattle.slices.specs.Choices.{both}
-use Rattle.hypervolume.specs.Cells.{box}
-use Rattle.slices.proofs.Choices.{both-true, both-intro}
-use Rattle.words.specs.Archive.{Row, Shape, Archive, reference, trials}
+use Rattle.hypervolume.specs.Cells.{box, dominates}
+use Rattle.slices.proofs.Choices.{both-true, both-intro, both-comm}
+use Rattle.words.specs.Archive.{Trial, point, Row, Shape, reference, Archive, trials}
+use Rattle.words.specs.Format.{guard, within, each, shape-allowed, number-allowed, coordinates-allowed, header-allowed, row-allowed, rows-allowed, ordered, distinct, sound-rows, zeros, unused, records-allowed, archive-rows}
 use Rattle.words.specs.Layout.{header, records, extent, layout, word, read-row, read-rows, read-shape, read, behind}
-use Rattle.words.specs.Format.{guard, within, shape-allowed, number-allowed, coordinates-allowed, header-allowed, row-allowed, rows-allowed, ordered, distinct, zeros, unused, records-allowed, archive-rows}
-use Rattle.words.proofs.Reading.{length-records, length-read-rows, read-rows-at, records-read, header-read, read-layout, length-layout}
+use Rattle.words.specs.Places.{Headed}
+use Rattle.words.proofs.Reading.{length-records, length-read-rows, read-rows-at, header-read, records-read, read-layout, length-layout}
 
 -- What a test of the table tells, as bounds, and back.
 
@@ -30,77 +31,80 @@ pub bounds-within : (low high n : ℕ) → low ≤ n → n ≤ high → within l
 unfolding within
 bounds-within low high n l h = both-intro (leb low n) (leb n high) (le-leb low n l) (le-leb n high h)
 
+-- Numbers that are each within bounds, by place; a place that the list lacks counts as 0.
+each-bounds : (low high : ℕ) (l : List ℕ) → each (within low high) l ≡ true → (i : ℕ) → (i < length l → low ≤ getD l i 0) × (getD l i 0 ≤ high)
+unfolding each
+each-bounds low high [] e i = (λ m. absurd (let no : ⊥ = omega arith in no), zero-le)
+each-bounds low high (n ∷ l) e zero =
+    let here = within-bounds low high n (both-true _ _ e .0) in
+    (λ m. here .0, here .1)
+each-bounds low high (n ∷ l) e (suc i) =
+    let later = each-bounds low high l (both-true _ _ e .1) i in
+    (λ m. later .0 (omega arith), later .1)
+
+-- The reference by its axis.
 pub record ShapeBounds (s : Shape) : Type 0 where
   pub capacity-low : 1 ≤ s .capacity
   pub capacity-high : s .capacity ≤ 512
-  pub rx-low : 1 ≤ s .rx
-  pub rx-high : s .rx ≤ 1048576
-  pub ry-low : 1 ≤ s .ry
-  pub ry-high : s .ry ≤ 1048576
-  pub rz-low : 1 ≤ s .rz
-  pub rz-high : s .rz ≤ 1048576
+  pub reference-low : (axis : ℕ) → axis < 3 → 1 ≤ getD (reference s) axis 0
+  pub reference-high : (axis : ℕ) → getD (reference s) axis 0 ≤ 1048576
 
 pub shape-bounds : (s : Shape) → shape-allowed s ≡ true → ShapeBounds s
 unfolding shape-allowed
 shape-bounds s e =
-    let c = both-true _ _ e in
-    let x = both-true _ _ (c .1) in
-    let yz = both-true _ _ (x .1) in
-    let capacity = within-bounds 1 512 (s .capacity) (c .0) in
-    let rx = within-bounds 1 1048576 (s .rx) (x .0) in
-    let ry = within-bounds 1 1048576 (s .ry) (yz .0) in
-    let rz = within-bounds 1 1048576 (s .rz) (yz .1) in
+    let parts = both-true _ _ e in
+    let capacity = within-bounds 1 512 (s .capacity) (parts .0) in
+    let numbers = each-bounds 1 1048576 (reference s) (parts .1) in
     record {
       capacity-low = capacity .0;
       capacity-high = capacity .1;
-      rx-low = rx .0;
-      rx-high = rx .1;
-      ry-low = ry .0;
-      ry-high = ry .1;
-      rz-low = rz .0;
-      rz-high = rz .1;
+      reference-low = λ axis l. numbers axis .0 l;
+      reference-high = λ axis. numbers axis .1;
     }
 
-pub bounds-shape : (s : Shape) → ShapeBounds s → shape-allowed s ≡ true
-unfolding shape-allowed
-bounds-shape s b =
-    both-intro _ _ (bounds-within 1 512 (s .capacity) (b .capacity-low) (b .capacity-high))
-    (both-intro _ _ (bounds-within 1 1048576 (s .rx) (b .rx-low) (b .rx-high))
-    (both-intro _ _ (bounds-within 1 1048576 (s .ry) (b .ry-low) (b .ry-high))
-    (bounds-within 1 1048576 (s .rz) (b .rz-low) (b .rz-high))))
+-- A point that dominates another is at most it, by the axis.
+dominates-axis : (p q : List ℕ) → length p ≤ length q → dominates p q ≡ true → (axis : ℕ) → getD p axis 0 ≤ getD q axis 0
+unfolding dominates
+dominates-axis [] q l e axis = zero-le
+dominates-axis (x ∷ p) [] l e axis = absurd (let no : ⊥ = omega arith in no)
+dominates-axis (x ∷ p) (y ∷ q) l e zero = leb-true x y (both-true _ _ e .0)
+dominates-axis (x ∷ p) (y ∷ q) l e (suc axis) = dominates-axis p q (omega arith) (both-true _ _ e .1) axis
+
+-- No coordinate that is allowed is above 1,048,576.
+pub coordinates-small : (s : Shape) (t : Trial) → ShapeBounds s → coordinates-allowed s t ≡ true → (axis : ℕ) → getD (point t) axis 0 ≤ 1048576
+unfolding coordinates-allowed
+coordinates-small s t b e axis = le-trans (dominates-axis (point t) (reference s) (lit≤ tt) e axis) (b .reference-high axis)
+
+-- The coordinates compared one axis after the other.
+pub coordinates-by-axis : (s : Shape) (t : Trial) → coordinates-allowed s t ≡ both (leb (t .x) (s .rx)) (both (leb (t .y) (s .ry)) (leb (t .z) (s .rz)))
+unfolding coordinates-allowed dominates both
+coordinates-by-axis s t =
+    ap (λ b. both (leb (t .x) (s .rx)) (both (leb (t .y) (s .ry)) b)) (both-comm (leb (t .z) (s .rz)) true)
 
 pub record RowBounds (s : Shape) (r : Row) : Type 0 where
   pub number-low : 1 ≤ r .trial .number
   pub number-high : r .trial .number ≤ 9999999
-  pub x-high : r .trial .x ≤ s .rx
-  pub y-high : r .trial .y ≤ s .ry
-  pub z-high : r .trial .z ≤ s .rz
+  pub coordinates : coordinates-allowed s (r .trial) ≡ true
   pub kept-high : r .kept ≤ box (reference s)
 
 pub row-bounds : (s : Shape) (r : Row) → row-allowed s r ≡ true → RowBounds s r
-unfolding row-allowed number-allowed coordinates-allowed
+unfolding row-allowed number-allowed
 row-bounds s r e =
     let n = both-true _ _ e in
     let k = both-true _ _ (n .1) in
-    let x = both-true _ _ (k .0) in
-    let yz = both-true _ _ (x .1) in
     let number = within-bounds 1 9999999 (r .trial .number) (n .0) in
     record {
       number-low = number .0;
       number-high = number .1;
-      x-high = leb-true _ _ (x .0);
-      y-high = leb-true _ _ (yz .0);
-      z-high = leb-true _ _ (yz .1);
+      coordinates = k .0;
       kept-high = leb-true _ _ (k .1);
     }
 
 pub bounds-row : (s : Shape) (r : Row) → RowBounds s r → row-allowed s r ≡ true
-unfolding row-allowed number-allowed coordinates-allowed
+unfolding row-allowed number-allowed
 bounds-row s r b =
     both-intro _ _ (bounds-within 1 9999999 (r .trial .number) (b .number-low) (b .number-high))
-    (both-intro _ _
-    (both-intro _ _ (le-leb _ _ (b .x-high)) (both-intro _ _ (le-leb _ _ (b .y-high)) (le-leb _ _ (b .z-high))))
-    (le-leb _ _ (b .kept-high)))
+    (both-intro _ _ (b .coordinates) (le-leb _ _ (b .kept-high)))
 
 -- Every row of rows that are allowed, by its place.
 pub rows-bounds : (s : Shape) (rows : List Row) → rows-allowed s rows ≡ true → (i : ℕ) (d : Row) → i < length rows → RowBounds s (getD rows i d)
@@ -109,20 +113,13 @@ rows-bounds s [] e i d l = absurd (let no : ⊥ = omega arith in no)
 rows-bounds s (r ∷ rows) e zero d l = row-bounds s r (both-true _ _ e .0)
 rows-bounds s (r ∷ rows) e (suc i) d l = rows-bounds s rows (both-true _ _ e .1) i d (omega arith)
 
-pub bounds-rows : (s : Shape) (rows : List Row) (d : Row) → ((i : ℕ) → i < length rows → RowBounds s (getD rows i d)) → rows-allowed s rows ≡ true
-unfolding rows-allowed
-bounds-rows s [] d h = refl
-bounds-rows s (r ∷ rows) d h =
-    both-intro _ _ (bounds-row s r (h 0 (omega arith)))
-    (bounds-rows s rows d (λ i l. h (suc i) (omega arith)))
-
 pub zeros-replicate : (n : ℕ) → zeros (replicate n 0) ≡ true
-unfolding zeros both
+unfolding zeros each both
 zeros-replicate zero = refl
 zeros-replicate (suc n) = zeros-replicate n
 
 pub replicate-zeros : (l : List ℕ) → zeros l ≡ true → l ≡ replicate (length l) 0
-unfolding zeros
+unfolding zeros each
 replicate-zeros [] e = refl
 replicate-zeros (n ∷ l) e =
     let t = both-true _ _ e in
@@ -150,87 +147,96 @@ unfolding guard
 guard-none true n rest e = absurd (let no : ⊥ = omega arith in no)
 guard-none false n rest e = (refl, e)
 
--- Words in four parts.
-parts : (i j k : ℕ) (w : List ℕ) → w ≡ take i w ++ (take j (drop i w) ++ take k (drop (i + j) w)) ++ drop (i + j + k) w
-parts i j k w =
-    rw (
-      append-assoc (take i w) (take j (drop i w) ++ take k (drop (i + j) w)) (drop (i + j + k) w),
-      append-assoc (take j (drop i w)) (take k (drop (i + j) w)) (drop (i + j + k) w),
-      ← drop-drop k (i + j) w,
-      take-append-drop k (drop (i + j) w),
-      ← drop-drop j i w,
-      take-append-drop j (drop i w),
-      take-append-drop i w,
-    )
+-- What rows 1 and 2 tell of words that they let pass.
+pub record HeaderFacts (w : List ℕ) : Type 0 where
+  pub long : 8 + 5 * word w 1 ≤ length w
+  pub shaped : shape-allowed (read-shape w) ≡ true
+  pub six : word w 6 ≡ 0
+  pub seven : word w 7 ≡ 0
+  pub counted : word w 0 ≤ word w 1
+  pub within-box : word w 5 ≤ box (reference (read-shape w))
 
--- The tests of rows 1 to 3, all passed.
-record Tests (w : List ℕ) : Type 0 where
-  long : 8 + 5 * word w 1 ≤ length w
-  shaped : shape-allowed (read-shape w) ≡ true
-  six : word w 6 ≡ 0
-  seven : word w 7 ≡ 0
-  counted : word w 0 ≤ word w 1
-  within-box : word w 5 ≤ box (reference (read-shape w))
-  rows-fit : rows-allowed (read-shape w) (read w .rows) ≡ true
-  in-order : ordered (trials (read w .rows)) ≡ true
-  apart : distinct (trials (read w .rows)) ≡ true
-  unused-zero : zeros (unused w) ≡ true
-
-tests : (w : List ℕ) → archive-rows w 0 ≡ 0 → Tests w
-unfolding archive-rows header-allowed records-allowed extent
-tests w e =
-    let first = guard-none _ _ _ e in
-    let second = guard-none _ _ _ (first .1) in
-    let third = guard-none _ _ _ (second .1) in
-    let fourth = guard-none _ _ _ (third .1) in
-    let shape = both-true _ _ (not-false _ (second .0)) in
+pub header-facts : (w : List ℕ) → Headed w → HeaderFacts w
+unfolding header-allowed extent
+header-facts w h =
+    let shape = both-true _ _ (h .allowed) in
     let six = both-true _ _ (shape .1) in
     let seven = both-true _ _ (six .1) in
     let counted = both-true _ _ (seven .1) in
-    let rows = both-true _ _ (not-false _ (fourth .0)) in
-    let order = both-true _ _ (rows .1) in
-    let apart = both-true _ _ (order .1) in
     record {
-      long = ltb-false (length w) (8 + 5 * word w 1) (third .0);
+      long = h .whole;
       shaped = shape .0;
       six = eqb-true _ _ (six .0);
       seven = eqb-true _ _ (seven .0);
       counted = leb-true _ _ (counted .0);
       within-box = leb-true _ _ (counted .1);
-      rows-fit = rows .0;
-      in-order = order .0;
-      apart = apart .0;
-      unused-zero = apart .1;
     }
 
-unused-words : (w : List ℕ) → Tests w → take (5 * (word w 1 - word w 0)) (drop (8 + 5 * word w 0) w) ≡ replicate (5 * (word w 1 - word w 0)) 0
-unfolding unused
-unused-words w t =
-    let enough : 5 * (word w 1 - word w 0) ≤ length (drop (8 + 5 * word w 0) w) =
-    omega (arith, length-drop (8 + 5 * word w 0) w, t .long, t .counted) in
-    replicate-zeros _ (t .unused-zero) ∙ ap (λ n. replicate n 0) (length-take-le _ _ enough)
+-- Once rows 1 and 2 have passed, row 3 decides.
+pub row-3-decides : (w : List ℕ) (rest : ℕ) → Headed w → archive-rows w rest ≡ guard (not (records-allowed w)) 3 rest
+unfolding archive-rows guard
+row-3-decides w rest h =
+    let facts : HeaderFacts w = header-facts w h in
+    rw (le-ltb (length w) 8 (omega arith), h .allowed, le-ltb (length w) (extent (word w 1)) (h .whole))
 
-laid-out : (w : List ℕ) → Tests w → w ≡ layout (read w) ++ behind w
-unfolding layout behind extent read read-shape
-laid-out w t =
+-- No row turns the words down, and none of the call's own rows, `rest`.
+pub record Unrefused (w : List ℕ) (rest : ℕ) : Type 0 where
+  pub headed : Headed w
+  pub records : records-allowed w ≡ true
+  pub call : rest ≡ 0
+
+pub unrefused : (w : List ℕ) (rest : ℕ) → archive-rows w rest ≡ 0 → Unrefused w rest
+unfolding archive-rows
+unrefused w rest e =
+    let first = guard-none _ _ _ e in
+    let second = guard-none _ _ _ (first .1) in
+    let third = guard-none _ _ _ (second .1) in
+    let fourth = guard-none _ _ _ (third .1) in
+    record {
+      headed = record { allowed = not-false _ (second .0); whole = ltb-false _ _ (third .0) };
+      records = not-false _ (fourth .0);
+      call = fourth .1;
+    }
+
+pub passed-both : (w : List ℕ) (rest : ℕ) → archive-rows w rest ≡ 0 → (archive-rows w 0 ≡ 0) × (rest ≡ 0)
+unfolding guard
+passed-both w rest e =
+    let u : Unrefused w rest = unrefused w rest e in
+    (row-3-decides w 0 (u .headed) ∙ rw (u .records), u .call)
+
+-- Words in four parts.
+parts : (i j k : ℕ) (w : List ℕ) → i + j ≤ k → w ≡ take i w ++ (take j (drop i w) ++ slice (i + j) k w) ++ drop k w
+parts i j k w l =
+    let front : take (i + j) (take k w) ≡ take i w ++ take j (drop i w) = take-take (i + j) k w l ∙ take-add i j w in
+    sym (take-append-drop k w)
+    ∙ ap (λ p. p ++ drop k w) (sym (take-append-drop (i + j) (take k w)) ∙ ap (λ p. p ++ slice (i + j) k w) front ∙ append-assoc (take i w) (take j (drop i w)) (slice (i + j) k w))
+
+laid-out : (w : List ℕ) → HeaderFacts w → zeros (unused w) ≡ true → w ≡ layout (read w) ++ behind w
+unfolding layout behind extent read read-shape unused
+laid-out w t z =
     let long : 8 + 5 * word w 1 ≤ length w = t .long in
     let counted : word w 0 ≤ word w 1 = t .counted in
-    let last : 8 + 5 * word w 0 + 5 * (word w 1 - word w 0) ≡ 8 + 5 * word w 1 = omega arith in
+    let many : 8 + 5 * word w 1 - (8 + 5 * word w 0) ≡ 5 * (word w 1 - word w 0) = omega arith in
+    let rest : slice (8 + 5 * word w 0) (8 + 5 * word w 1) w ≡ replicate (5 * (word w 1 - word w 0)) 0 =
+    replicate-zeros _ z ∙ ap (λ n. replicate n 0) (length-slice _ _ w long ∙ many) in
     let rows : 5 * word w 0 ≤ length (drop 8 w) = omega (arith, length-drop 8 w) in
     rw (
       length-read-rows (word w 0) (drop 8 w),
       header-read w (omega arith) (t .six) (t .seven),
       records-read (word w 0) (drop 8 w) rows,
-      ← unused-words w t,
-      ← last,
+      ← rest,
     )
-    (parts 8 (5 * word w 0) (5 * (word w 1 - word w 0)) w)
+    (parts 8 (5 * word w 0) (8 + 5 * word w 1) w (omega arith))
 
 -- What passes rows 1 to 3 is the layout of a sound archive, with the words behind.
 pub passed : (w : List ℕ) → archive-rows w 0 ≡ 0 → Passed w
-unfolding read read-shape
+unfolding read read-shape records-allowed sound-rows
 passed w e =
-    let t : Tests w = tests w e in
+    let u : Unrefused w 0 = unrefused w 0 e in
+    let t : HeaderFacts w = header-facts w (u .headed) in
+    let records = both-true _ _ (u .records) in
+    let rows = both-true _ _ (records .0) in
+    let order = both-true _ _ (rows .1) in
     record {
       long = t .long;
       counted = t .counted;
@@ -240,60 +246,37 @@ passed w e =
             shaped = t .shaped;
             within-box = t .within-box;
             held-within = subst (λ n. n ≤ word w 1) (sym (length-read-rows (word w 0) (drop 8 w))) (t .counted);
-            rows-fit = t .rows-fit;
-            in-order = t .in-order;
-            apart = t .apart;
+            rows-fit = rows .0;
+            in-order = order .0;
+            apart = order .1;
           };
-      laid = laid-out w t;
+      laid = laid-out w t (records .1);
     }
 
-tests-pass : (w : List ℕ) (rest : ℕ) → Tests w → archive-rows w rest ≡ rest
-unfolding archive-rows guard header-allowed records-allowed extent
-tests-pass w rest t =
-    let long : 8 + 5 * word w 1 ≤ length w = t .long in
-    let header : header-allowed w ≡ true =
-    both-intro _ _ (t .shaped)
-    (both-intro _ _ (eq-eqb _ _ (t .six))
-    (both-intro _ _ (eq-eqb _ _ (t .seven))
-    (both-intro _ _ (le-leb _ _ (t .counted)) (le-leb _ _ (t .within-box))))) in
-    let rows : records-allowed w ≡ true =
-    both-intro _ _ (t .rows-fit)
-    (both-intro _ _ (t .in-order) (both-intro _ _ (t .apart) (t .unused-zero))) in
-    rw (le-ltb (length w) 8 (omega arith), header, le-ltb (length w) (8 + 5 * word w 1) long, rows)
-
-middle : (p q r : List ℕ) (i n : ℕ) → length p ≡ i → length q ≡ n → take n (drop i (p ++ (q ++ r))) ≡ q
-middle p q r i n l m = rw (drop-at p (q ++ r) i l) (take-at q r n m)
-
 -- The unused words of a layout.
-unused-layout : (a : Archive) (b : List ℕ) → unused (layout a ++ b) ≡ replicate (5 * (a .shape .capacity - length (a .rows))) 0
+unused-layout : (a : Archive) (b : List ℕ) → length (a .rows) ≤ a .shape .capacity
+    → unused (layout a ++ b) ≡ replicate (5 * (a .shape .capacity - length (a .rows))) 0
 unfolding unused layout header
-unused-layout a b =
-    let n : ℕ = 5 * (a .shape .capacity - length (a .rows)) in
+unused-layout a b l =
     let before : length (header a ++ records (a .rows)) ≡ 8 + 5 * length (a .rows) =
     omega (arith, length-records (a .rows)) in
-    rw (append-assoc (records (a .rows)) (replicate n 0) b)
-    (middle (header a ++ records (a .rows)) (replicate n 0) b _ n before (length-replicate n 0))
+    ap (drop (8 + 5 * length (a .rows))) (take-at (layout a) b (extent (a .shape .capacity)) (length-layout a l))
+    ∙ drop-at (header a ++ records (a .rows)) _ (8 + 5 * length (a .rows)) before
 
 -- The layout of a sound archive passes rows 1 to 3, whatever lies behind it.
 pub sound-passes : (a : Archive) (b : List ℕ) (rest : ℕ) → Sound a → archive-rows (layout a ++ b) rest ≡ rest
-unfolding layout header read-shape extent
+unfolding layout header read-shape extent header-allowed records-allowed sound-rows guard
 sound-passes a b rest s =
     let rows : read (layout a ++ b) .rows ≡ a .rows = ap (λ r. r .rows) (read-layout a b) in
     let whole : length (layout a ++ b) ≡ 8 + 5 * a .shape .capacity + length b =
     length-append (layout a) b ∙ ap (λ n. n + length b) (length-layout a (s .held-within)) in
-    tests-pass (layout a ++ b) rest
-    (record {
-      long = omega arith;
-      shaped = s .shaped;
-      six = refl;
-      seven = refl;
-      counted = s .held-within;
-      within-box = s .within-box;
-      rows-fit = rw rows (s .rows-fit);
-      in-order = rw rows (s .in-order);
-      apart = rw rows (s .apart);
-      unused-zero = rw (unused-layout a b) (zeros-replicate (5 * (a .shape .capacity - length (a .rows))));
-    })
+    let allowed : header-allowed (layout a ++ b) ≡ true =
+    both-intro _ _ (s .shaped)
+    (both-intro _ _ refl (both-intro _ _ refl (both-intro _ _ (le-leb _ _ (s .held-within)) (le-leb _ _ (s .within-box))))) in
+    let records : records-allowed (layout a ++ b) ≡ true =
+    both-intro _ _ (rw rows (both-intro _ _ (s .rows-fit) (both-intro _ _ (s .in-order) (s .apart))))
+    (rw (unused-layout a b (s .held-within)) (zeros-replicate (5 * (a .shape .capacity - length (a .rows))))) in
+    row-3-decides (layout a ++ b) rest (record { allowed = allowed; whole = omega arith }) ∙ rw records
 
 -- Words that have passed pass whatever rows a call adds.
 pub passes-again : (w : List ℕ) (rest : ℕ) → Passed w → archive-rows w rest ≡ rest
@@ -326,15 +309,7 @@ passed-row w p i l =
     subst (RowBounds (read-shape w)) place (rows-bounds (read-shape w) rows (p .sound .rows-fit) i none inside)
 
 -- "The box is rx × ry × rz, at most 2^60."
-pub box-product : (s : Shape) → s .rx * (s .ry * s .rz) ≡ box (reference s)
-unfolding box
-box-product s = rw (mul-one (s .rz))
-
 pub box-bound : (s : Shape) → ShapeBounds s → box (reference s) ≤ 2 ^ 60
 unfolding box
 box-bound s b =
-    le-trans (mul-le-mul (b .rx-high) (mul-le-mul (b .ry-high) (mul-le-mul (b .rz-high) (le-refl 1)))) (lit≤ tt)
-
-pub box-fits : (s : Shape) → shape-allowed s ≡ true → s .rx * (s .ry * s .rz) < 2 ^ 64
-box-fits s e =
-    subst (λ n. n < 2 ^ 64) (sym (box-product s)) (lt-of-le-of-lt (box-bound s (shape-bounds s e)) (lit< tt))
+    le-trans (mul-le-mul (b .reference-high 0) (mul-le-mul (b .reference-high 1) (mul-le-mul (b .reference-high 2) (le-refl 1)))) (lit≤ tt)

@@ -1,13 +1,14 @@
 -- Rows 1 to 3 of the table of refusals (document 01, "Where each call is turned down"): what words must be to be
 -- read as an archive. The same for every call on an archive slice but start and the card reader.
-use Prim.Native.Nat.{ℕ, _+_, _-_, _*_}
+use Prim.Native.Nat.{ℕ, _+_, _*_}
 use mathlib.Core.Bool.{Bool, true, false, not}
 use mathlib.Core.List.{List, _∷_, []}
 use lib.Dec.{leb, ltb, eqb}
-use lib.ListN.{length, take, drop}
+use lib.ListN.{length}
+use lib.Seq.{slice}
 use Rattle.slices.specs.Choices.{both, either}
-use Rattle.hypervolume.specs.Cells.{box}
-use Rattle.words.specs.Archive.{Trial, Row, Shape, reference, trials, before}
+use Rattle.hypervolume.specs.Cells.{box, dominates}
+use Rattle.words.specs.Archive.{Trial, Row, Shape, point, reference, trials, before}
 use Rattle.words.specs.Layout.{word, read, read-shape, extent}
 
 -- A row of the table: its number where its condition holds, else what the rows after it say. 0 is no refusal.
@@ -19,19 +20,23 @@ guard false number rest = rest
 unfoldable pub within : ℕ → ℕ → ℕ → Bool
 within low high n = both (leb low n) (leb n high)
 
+-- Whether the test holds of every number of the list.
+unfoldable pub each : (ℕ → Bool) → List ℕ → Bool
+each test [] = true
+each test (n ∷ ns) = both (test n) (each test ns)
+
 -- Row 4, and part of row 2: "capacity, 1 to 512"; the reference "has each number 1 to 1,048,576".
 unfoldable pub shape-allowed : Shape → Bool
-shape-allowed s =
-    both (within 1 512 (s .capacity))
-    (both (within 1 1048576 (s .rx)) (both (within 1 1048576 (s .ry)) (within 1 1048576 (s .rz))))
+shape-allowed s = both (within 1 512 (s .capacity)) (each (within 1 1048576) (reference s))
 
 -- Row 5, and part of row 3: a "trial number (1 to 9,999,999)".
 unfoldable pub number-allowed : ℕ → Bool
 number-allowed n = within 1 9999999 n
 
--- Row 6, and part of row 3: "coordinates run from 0 to the reference on that axis, both allowed".
+-- Row 6, and part of row 3: "coordinates run from 0 to the reference on that axis, both allowed": on every axis the
+-- point is at most the reference.
 unfoldable pub coordinates-allowed : Shape → Trial → Bool
-coordinates-allowed s t = both (leb (t .x) (s .rx)) (both (leb (t .y) (s .ry)) (leb (t .z) (s .rz)))
+coordinates-allowed s t = dominates (point t) (reference s)
 
 -- Row 2: "capacity, a reference word or words 6 and 7 not as above; count above capacity; total above the box".
 unfoldable pub header-allowed : List ℕ → Bool
@@ -67,20 +72,21 @@ unfoldable pub distinct : List Trial → Bool
 distinct [] = true
 distinct (t ∷ ts) = both (not (held (t .number) ts)) (distinct ts)
 
+-- Row 3, the records: each allowed, in order, no number twice.
+unfoldable pub sound-rows : Shape → List Row → Bool
+sound-rows s rows = both (rows-allowed s rows) (both (ordered (trials rows)) (distinct (trials rows)))
+
 -- Row 3: "an unused word not zero".
 unfoldable pub zeros : List ℕ → Bool
-zeros [] = true
-zeros (n ∷ ns) = both (eqb n 0) (zeros ns)
+zeros l = each (λ n. eqb n 0) l
 
 -- The words of unused records: behind the records, before the extent.
 unfoldable pub unused : List ℕ → List ℕ
-unused w = take (5 * (word w 1 - word w 0)) (drop (8 + 5 * word w 0) w)
+unused w = slice (8 + 5 * word w 0) (extent (word w 1)) w
 
 -- Row 3.
 unfoldable pub records-allowed : List ℕ → Bool
-records-allowed w =
-    both (rows-allowed (read-shape w) (read w .rows))
-    (both (ordered (trials (read w .rows))) (both (distinct (trials (read w .rows))) (zeros (unused w))))
+records-allowed w = both (sound-rows (read-shape w) (read w .rows)) (zeros (unused w))
 
 -- Rows 1 to 3 in the table's order, row 1 in its two halves, then the rows of the call.
 unfoldable pub archive-rows : List ℕ → ℕ → ℕ

@@ -5,9 +5,11 @@ use lib.ListN.{length, getD, drop, replicate}
 use Rattle.words.specs.Archive.{Row, Shape, Archive}
 
 -- "Word 0: count of trials. 1: capacity. 2, 3, 4: rx, ry, rz. 5: total. 6 and 7: zero."
+abbrev pub header-words : ℕ → Shape → ℕ → List ℕ
+header-words count s total = count ∷ s .capacity ∷ s .rx ∷ s .ry ∷ s .rz ∷ total ∷ 0 ∷ 0 ∷ []
+
 unfoldable pub header : Archive → List ℕ
-header a =
-    length (a .rows) ∷ a .shape .capacity ∷ a .shape .rx ∷ a .shape .ry ∷ a .shape .rz ∷ a .sum ∷ 0 ∷ 0 ∷ []
+header a = header-words (length (a .rows)) (a .shape) (a .sum)
 
 -- "Records of five words: trial number, x, y, z, contribution."
 unfoldable pub record-words : Row → List ℕ

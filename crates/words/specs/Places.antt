@@ -2,14 +2,14 @@
 use Prim.Native.Nat.{ℕ, zero, suc, _+_, _*_, _≤_, _<_}
 use mathlib.Core.Bool.{Bool, true, false, not}
 use mathlib.Core.Path.{_≡_}
-use mathlib.Core.List.{List, _∷_, []}
+use mathlib.Core.List.{List}
 use lib.Dec.{ltb}
 use lib.ListN.{length, drop}
 use Rattle.slices.specs.Choices.{both}
 use Rattle.hypervolume.specs.Cells.{box}
 use Rattle.words.specs.Archive.{Row, Shape, reference, trials, before}
 use Rattle.words.specs.Layout.{word, read-row, read-rows, read-shape, extent}
-use Rattle.words.specs.Format.{header-allowed, row-allowed, rows-allowed, ordered, held, distinct}
+use Rattle.words.specs.Format.{header-allowed, row-allowed, held}
 use Rattle.words.specs.declared.rows.Row as code-row
 use Rattle.words.specs.declared.rows.Shape as code-shape
 
@@ -20,10 +20,6 @@ as-row r =
 
 abbrev pub as-shape : code-shape.Shape → Shape
 as-shape s = record { capacity = s .capacity; rx = s .rx; ry = s .ry; rz = s .rz }
-
--- The header's words for a count, a shape and a total.
-abbrev pub header-words : ℕ → Shape → ℕ → List ℕ
-header-words count s total = count ∷ s .capacity ∷ s .rx ∷ s .ry ∷ s .rz ∷ total ∷ 0 ∷ 0 ∷ []
 
 -- The record at a place, counted from 0, and the records before that place.
 unfoldable pub row-at : List ℕ → ℕ → Row
@@ -45,10 +41,6 @@ repeated w i = held (row-at w i .trial .number) (trials (rows-before w i))
 unfoldable pub stands : List ℕ → ℕ → Bool
 stands w i =
     both (row-allowed (read-shape w) (row-at w i)) (both (follows w i) (not (repeated w i)))
-
--- Row 3 of the records alone: each allowed, in order, no number twice.
-unfoldable pub sound-rows : Shape → List Row → Bool
-sound-rows s rows = both (rows-allowed s rows) (both (ordered (trials rows)) (distinct (trials rows)))
 
 -- What the test at a place is given: the box, and whether the number's bit was set by a record before.
 pub record AtPlace (w : List ℕ) (cells i : ℕ) (met : Bool) : Type 0 where

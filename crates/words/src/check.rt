@@ -8,13 +8,14 @@ ghost use mathlib.Core.Path.{_≡_};
 ghost use mathlib.Core.Bool.{true, false};
 ghost use Prim.Native.Nat.{_+_, _-_, _*_, _≤_};
 ghost use lib.Dec.{ltb, eqb};
-ghost use lib.ListN.{length, take, drop};
+ghost use lib.ListN.{length};
+ghost use lib.Seq.{slice};
 ghost use Rattle.slices.specs.Choices.{both, either};
 ghost use Rattle.hypervolume.specs.Cells.{box};
 ghost use Rattle.words.specs.Archive.{reference, before};
 ghost use Rattle.words.specs.Layout.{read-shape, read};
-ghost use Rattle.words.specs.Format.{within, shape-allowed, number-allowed, coordinates-allowed, header-allowed, row-allowed, zeros, records-allowed, archive-rows};
-ghost use Rattle.words.specs.Places.{as-row, as-shape, follows, stands, sound-rows, AtPlace, Headed};
+ghost use Rattle.words.specs.Format.{within, shape-allowed, number-allowed, coordinates-allowed, header-allowed, row-allowed, sound-rows, zeros, records-allowed, archive-rows};
+ghost use Rattle.words.specs.Places.{as-row, as-shape, follows, stands, AtPlace, Headed};
 ghost use Rattle.words.specs.Table.{marked, Marking};
 
 // Both of two tests.
@@ -176,7 +177,7 @@ fn rows_allowed(w: &[u64]) -> bool
 // Whether the words from `from` on, up to `to`, are zero. No early end: most are.
 fn zeros(w: &[u64], from: usize, to: usize) -> bool
     requires { ⌜ (from ≤ to) × (to ≤ length (now w)) ⌝ }
-    ensures { λ r. ⌜ r ≡ zeros (take (to - from) (drop from (now (w .entry)))) ⌝ }
+    ensures { λ r. ⌜ r ≡ zeros (slice from to (now (w .entry))) ⌝ }
 {
     let mut any: u64 = 0;
     let mut i = from;

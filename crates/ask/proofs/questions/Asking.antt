@@ -61,7 +61,7 @@ unfolding read box
 share-asks w cells p e =
     let s = shape-bounds (read-shape w) (known w p .sound .shaped) in
     let k : Known w = known w p in
-    omega (arith, k, e, box-some (read-shape w .rx) (read-shape w .ry) (read-shape w .rz) (s .rx-low) (s .ry-low) (s .rz-low))
+    omega (arith, k, e, box-some (read-shape w .rx) (read-shape w .ry) (read-shape w .rz) (s .reference-low 0 (omega arith)) (s .reference-low 1 (omega arith)) (s .reference-low 2 (omega arith)))
   where
     box-some : (x y z : ℕ) → 1 ≤ x → 1 ≤ y → 1 ≤ z → 1 ≤ x * (y * (z * 1))
     box-some x y z a b c = one-le-mul a (one-le-mul b (one-le-mul c (le-refl 1)))

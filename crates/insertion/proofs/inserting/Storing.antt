@@ -2,10 +2,10 @@
 use Prim.Native.Nat.{ℕ, suc, _+_, _*_, _≤_, _<_}
 use mathlib.Core.Path.{_≡_, refl, sym, ap, ap₂, _∙_}
 use mathlib.Core.Bool.{true, false}
-use mathlib.Core.List.{List, _++_, map}
+use mathlib.Core.List.{List, _++_, map, append-nil, []}
 use native.Mathlib.Numerals.{add-one}
 use native.Mathlib.Omega.{arith}
-use lib.ListN.{length, take, set}
+use lib.ListN.{length, take, set, length-map}
 use Rattle.words.specs.Archive.{Trial, Row}
 use Rattle.words.specs.Layout.{records, layout, read, word, behind}
 use Rattle.words.specs.Places.{rows-before}
@@ -19,8 +19,6 @@ use Rattle.slices.specs.Put.{put}
 use Rattle.slices.proofs.Put.{put-over}
 use Rattle.words.proofs.Reading.{length-records}
 use Rattle.calls.proofs.Members.{place-length}
-use mathlib.Core.List.{append-nil, []}
-use lib.ListN.{length-map}
 use lib.Dec.{ltb}
 use borrow.Author.Tests.{not-true, not-false, ltb-false}
 use Rattle.slices.proofs.Choices.{either-false}

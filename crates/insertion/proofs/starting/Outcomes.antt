@@ -12,9 +12,8 @@ use lib.Seq.{drop-at}
 use Rattle.slices.specs.Put.{put}
 use Rattle.slices.proofs.Put.{put-front}
 use Rattle.words.specs.Archive.{Shape}
-use Rattle.words.specs.Layout.{extent, layout, header, records}
+use Rattle.words.specs.Layout.{extent, layout, header, records, header-words}
 use Rattle.words.specs.Format.{shape-allowed}
-use Rattle.words.specs.Places.{header-words}
 use Rattle.calls.specs.Calls.{empty}
 use Rattle.calls.specs.Lent.{Outcome, start, start-rows}
 use Rattle.calls.proofs.Answers.{guard-yes, guard-no, leaves-refused, leaves-done, turned-down}
@@ -36,9 +35,9 @@ start-short w s t end e f g l =
 
 pub start-done : (w w₁ w₂ : List ℕ) (s : Shape) (t : Bool) (end : ℕ) → t ≡ shape-allowed s → t ≡ true → end ≡ 8 + 5 * s .capacity → end ≤ length w
     → w₁ ≡ put w 0 (replicate end 0)
-    → w₂ ≡ header-words 0 s 0 ++ drop 8 w₁
+    → w₂ ≡ put w₁ 0 (header-words 0 s 0)
     → (_≡_ {A = ℕ} 0 (start w s .refusal)) × (w₂ ≡ start w s .words)
-unfolding start start-rows not extent layout header records empty
+unfolding start start-rows not extent layout header records empty put
 start-done w w₁ w₂ s t end e f g l e₁ e₂ =
     let row : start-rows w s ≡ 0 =
     guard-no (not (shape-allowed s)) 4 _ (ap not (sym e ∙ f))

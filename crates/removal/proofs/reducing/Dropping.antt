@@ -17,7 +17,7 @@ use Rattle.words.specs.Format.{archive-rows, held}
 use Rattle.words.specs.Places.{row-at, rows-before}
 use Rattle.words.proofs.Reading.{read-layout, behind-layout}
 use Rattle.words.proofs.Passed.{Sound, passed, sound-passes}
-use Rattle.words.proofs.Lists.{held-at}
+use Rattle.words.proofs.Held.{held-at}
 use Rattle.calls.specs.Calls.{held-trials, least-row, removed, remove-overruns, dropped, note, after-drops, notes}
 use Rattle.calls.specs.Counted.{IsCounted}
 use Rattle.removal.specs.Removing.{number-at}

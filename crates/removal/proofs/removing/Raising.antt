@@ -95,19 +95,6 @@ pub joints-each : (w : List ℕ) (k : ℕ) → Each (shares (without (read w) (n
 unfolding without
 joints-each w k = shares-each (without (read w) (number-at w k)) (row-at w k .trial) (leave-out k (read w .rows))
 
--- A record's point is small.
-pub point-small : (w : List ℕ) (k : ℕ) (row : Row) → archive-rows w 0 ≡ 0 → k < word w 0 → row ≡ row-at w k → Small (point (row .trial))
-unfolding row-at
-point-small w k row p l e zero =
-    let s = shape-bounds (read-shape w) (known w p .shaped) in
-    rw e (omega (arith, s, passed-row w (passed w p) k l))
-point-small w k row p l e (suc zero) =
-    let s = shape-bounds (read-shape w) (known w p .shaped) in
-    rw e (omega (arith, s, passed-row w (passed w p) k l))
-point-small w k row p l e (suc (suc zero)) =
-    let s = shape-bounds (read-shape w) (known w p .shaped) in
-    rw e (omega (arith, s, passed-row w (passed w p) k l))
-point-small w k row p l e (suc (suc (suc i))) = zero-le
 
 -- The three ways out of `raised`.
 module _ (w : List ℕ) (k : ℕ) (after : List ℕ) (r : ℕ) (p : archive-rows w 0 ≡ 0) (l : k < word w 0) (lost : r ≡ removal-loss (read w) (number-at w k)) where

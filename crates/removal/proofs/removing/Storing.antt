@@ -4,7 +4,7 @@ use mathlib.Core.Path.{_≡_, refl, sym, ap, ap₂, _∙_}
 use mathlib.Core.Bool.{true, false}
 use mathlib.Core.List.{List, _++_, map}
 use native.Mathlib.Omega.{arith}
-use lib.ListN.{length, take, set, replicate}
+use lib.ListN.{length, take, set, replicate, length-map, length-append}
 use Rattle.words.specs.Archive.{Row}
 use Rattle.words.specs.Layout.{records, layout, read, word, behind}
 use Rattle.words.specs.Places.{rows-before, row-at}
@@ -18,8 +18,6 @@ use Rattle.records.proofs.Laid.{rows-put}
 use Rattle.slices.specs.Put.{put}
 use Rattle.slices.proofs.Put.{put-front-over}
 use Rattle.words.proofs.Reading.{length-records}
-use lib.ListN.{length-map, length-append, replicate}
-use mathlib.Core.List.{_++_}
 use lib.Dec.{ltb}
 use borrow.Author.Tests.{not-true, not-false, ltb-false}
 use Rattle.slices.proofs.Choices.{either-false}

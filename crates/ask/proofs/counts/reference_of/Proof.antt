@@ -6,7 +6,7 @@ use Rattle.ask.proofs.counts.reference_of.Statement.{statement}
 use Rattle.ask.proofs.counts.reference_of.Tie as tie
 
 new-requires : tie.Need-new-requires
-new-requires c κs = let b = shape-bounds _ (c .pre) in (omega arith, omega arith, omega arith)
+new-requires c κs = let high = shape-bounds _ (c .pre) .reference-high in (omega (arith, high 0), omega (arith, high 1), omega (arith, high 2))
 
 returns : tie.Need-returns
 returns c = search needs

@@ -12,11 +12,17 @@ use Rattle.words.specs.Format.{shape-allowed}
 use Rattle.words.specs.Layout.{read}
 use Rattle.calls.specs.Calls.{box-of}
 use Rattle.calls.proofs.Known.{known}
+use Rattle.words.specs.Places.{as-row}
+use Rattle.ask.proofs.Points.{held-small}
 use Rattle.ask.proofs.CountedAmounts.{front-of}
-use Rattle.removal.proofs.removing.Raising.{point-small, loss-counted, kept-counted, shares-counted, kept-each, joints-each, box-each, limit-fits, raised-over, raised-judged}
+use Rattle.removal.proofs.removing.Raising.{loss-counted, kept-counted, shares-counted, kept-each, joints-each, box-each, limit-fits, raised-over, raised-judged}
 use borrow.Author.Needs.{needs}
 use Rattle.removal.proofs.removing.raised.Statement.{statement}
 use Rattle.removal.proofs.removing.raised.Tie as tie
+
+-- The point of the record that goes, as small as any held.
+held-point : (c : tie.Start) → Small (point (as-row (c .args .row) .trial))
+held-point c = subst (λ (r : Row). Small (point (r .trial))) (sym (c .pre .2)) (held-small (c .args .w .now) _ (c .pre .0) (c .pre .1))
 
 boxed : (c : tie.After-box-of) → c .box-of .result ≡ box-of (read (c .before .before .before .before .before .before .before .before .before .before .before .before .before .before .before .before .before .args .w .now))
 unfolding read
@@ -26,13 +32,13 @@ shared-slice-read-n : tie.Need-shared-slice-read-n
 shared-slice-read-n c = omega (arith, known (c .before .before .before .args .w .now) (c .before .before .before .pre .0))
 
 point-of-requires : tie.Need-point-of-requires
-point-of-requires c κs = point-small (c .before .before .before .args .w .now) _ _ (c .before .before .before .pre .0) (c .before .before .before .pre .1) (c .before .before .before .pre .2)
+point-of-requires c κs = held-point (c .before .before .before)
 
 slice-aggregate-count-joints : tie.Need-slice-aggregate-count-joints
 slice-aggregate-count-joints c = search needs
 
 count-joints-requires : tie.Need-count-joints-requires
-count-joints-requires c κs = (c .before .before .before .before .before .pre .0, le-of-lt (c .before .before .before .before .before .pre .1), omega arith, subst (λ q. Small q) (sym (c .before .point-of .ensures)) (point-small (c .before .before .before .before .before .args .w .now) _ _ (c .before .before .before .before .before .pre .0) (c .before .before .before .before .before .pre .1) (c .before .before .before .before .before .pre .2)))
+count-joints-requires c κs = (c .before .before .before .before .before .pre .0, le-of-lt (c .before .before .before .before .before .pre .1), omega arith, subst (λ q. Small q) (sym (c .before .point-of .ensures)) (held-point (c .before .before .before .before .before)))
 
 load-requires : tie.Need-load-requires
 load-requires c κs = omega (arith, known (c .before .before .before .before .before .before .before .before .args .w .now) (c .before .before .before .before .before .before .before .before .pre .0), c .before .before .before .before .before .before .before .before .pre .3, c .before .before .before .before .before .before .before .before .pre .1)

@@ -1,9 +1,23 @@
 -- `follows` meets its contract: the first record, or one behind another.
+use Prim.Native.Nat.{ℕ, zero, suc, _-_}
+use mathlib.Core.Path.{_≡_, refl, _∙_}
+use mathlib.Core.Bool.{Bool}
+use mathlib.Core.List.{List}
+use native.Mathlib.Omega.{arith}
 use borrow.Author.Needs.{needs}
-use Rattle.words.specs.Places.{follows}
-use Rattle.words.proofs.Places.{follows-behind}
+use Rattle.words.specs.Archive.{Row, before}
+use Rattle.words.specs.Places.{row-at, follows}
 use Rattle.words.proofs.check.follows.Statement.{statement}
 use Rattle.words.proofs.check.follows.Tie as tie
+
+-- A record that is not the first stands in order where the one before it stands before it.
+follows-behind : (w : List ℕ) (i : ℕ) (t u : Row) (r : Bool) → (i ≡ 0 → ⊥) → t ≡ row-at w (i - 1) → u ≡ row-at w i
+    → r ≡ before (t .trial) (u .trial) → r ≡ follows w i
+unfolding follows
+follows-behind w zero t u r n e f b = absurd (n refl)
+follows-behind w (suc i) t u r n e f b =
+    let back : suc i - 1 ≡ i = omega arith in
+    b ∙ rw (e, f, back)
 
 returns : tie.Need-returns
 unfolding follows

@@ -1,9 +1,9 @@
 -- `header_allowed` meets its contract: the ranges decide, or leave it to the other tests, once the box is known to fit.
-use mathlib.Core.Path.{_∙_, ap, sym}
+use mathlib.Core.Path.{_∙_, sym}
 use borrow.Author.Needs.{needs}
 use borrow.Author.Tests.{not-false, not-true}
 use Rattle.slices.specs.Choices.{both}
-use Rattle.words.proofs.Checking.{header-bad-shape, header-good-shape}
+use Rattle.words.specs.Format.{header-allowed}
 use Rattle.words.proofs.check.header_allowed.Statement.{statement}
 use Rattle.words.proofs.check.header_allowed.Tie as tie
 
@@ -14,7 +14,8 @@ shape-allowed-requires : tie.Need-shape-allowed-requires
 shape-allowed-requires c κs = search needs
 
 returns : tie.Need-returns
-returns c = header-bad-shape _ _ _ (c .before .before .shape-of .ensures) (c .before .shape-allowed .ensures) (not-true _ (c .if1 .taken))
+unfolding header-allowed both
+returns c = rw (← c .before .before .shape-of .ensures, sym (c .before .shape-allowed .ensures) ∙ not-true _ (c .if1 .taken))
 
 box-of-requires : tie.Need-box-of-requires
 box-of-requires c κs = sym (c .before .shape-allowed .ensures) ∙ not-false _ (c .if1 .left)
@@ -44,11 +45,11 @@ both-requires-3 : tie.Need-both-requires-3
 both-requires-3 c κs = search needs
 
 returns-2 : tie.Need-returns-2
+unfolding header-allowed both
 returns-2 c =
     let d = c .before .before .before .before .before .before .before .before in
-    c .both3 .ensures
-    ∙ ap (both _) (c .before .both2 .ensures ∙ ap (both _) (c .before .before .both .ensures))
-    ∙ header-good-shape _ _ _ _ (d .before .before .before .shape-of .ensures) (d .before .before .shape-allowed .ensures) (not-false _ (d .before .if1 .left)) (d .box-of .ensures)
+    rw (← d .before .before .before .shape-of .ensures, sym (d .before .before .shape-allowed .ensures) ∙ not-false _ (d .before .if1 .left), ← d .box-of .ensures)
+    cc
 
 pub header-allowed-spec : {M : Type 1} → statement M
 header-allowed-spec =

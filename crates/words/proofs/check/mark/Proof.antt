@@ -2,7 +2,7 @@
 use mathlib.Core.Path.{refl}
 use borrow.Author.Needs.{needs}
 use Rattle.words.specs.Table.{marked}
-use Rattle.words.proofs.Table.{marking}
+use Rattle.words.proofs.check.MarkLaws.{marking}
 use Rattle.words.proofs.check.mark.Statement.{statement}
 use Rattle.words.proofs.check.mark.Tie as tie
 

@@ -1,8 +1,12 @@
 -- `records_allowed` meets its contract: the records decide, or leave it to the unused words.
-use mathlib.Core.Path.{_∙_}
+use mathlib.Core.Path.{_∙_, sym}
 use native.Mathlib.Omega.{arith}
 use borrow.Author.Needs.{needs}
-use Rattle.words.proofs.Checking.{first-failed, first-passed, header-facts, records-test, unused-part}
+use borrow.Author.Tests.{not-true, not-false}
+use Rattle.slices.specs.Choices.{both}
+use Rattle.words.specs.Format.{unused, records-allowed}
+use Rattle.words.specs.Layout.{extent}
+use Rattle.words.proofs.Passed.{header-facts}
 use Rattle.words.proofs.check.records_allowed.Statement.{statement}
 use Rattle.words.proofs.check.records_allowed.Tie as tie
 
@@ -10,7 +14,8 @@ rows-allowed-requires : tie.Need-rows-allowed-requires
 rows-allowed-requires c κs = search needs
 
 returns : tie.Need-returns
-returns c = first-failed _ _ _ (records-test _ _ (c .before .rows-allowed .ensures)) (c .if1 .taken)
+unfolding records-allowed both
+returns c = rw (sym (c .before .rows-allowed .ensures) ∙ not-true _ (c .if1 .taken))
 
 shared-slice-read-zeros : tie.Need-shared-slice-read-zeros
 shared-slice-read-zeros c = let facts = header-facts _ (c .before .before .before .before .pre) in omega arith
@@ -34,10 +39,9 @@ zeros-requires : tie.Need-zeros-requires
 zeros-requires c κs = let facts = header-facts _ (c .before .before .before .before .before .pre) in omega arith
 
 returns-2 : tie.Need-returns-2
+unfolding records-allowed unused extent both
 returns-2 c =
-    c .zeros .ensures
-    ∙ unused-part _ (header-facts _ (c .before .before .before .before .before .before .pre))
-    ∙ first-passed _ _ _ (records-test _ _ (c .before .before .before .before .rows-allowed .ensures)) (c .before .before .before .if1 .left)
+    rw (sym (c .before .before .before .before .rows-allowed .ensures) ∙ not-false _ (c .before .before .before .if1 .left)) (c .zeros .ensures)
 
 pub records-allowed-spec : {M : Type 1} → statement M
 records-allowed-spec =

@@ -4,12 +4,13 @@ use Prim.Native.Nat.{_-_}
 use mathlib.Core.Path.{_∙_, ap, refl, sym}
 use native.Mathlib.Omega.{arith}
 use Rattle.words.specs.Format.{shape-allowed}
-use Rattle.words.proofs.Checking.{header-facts, Standing, standing-none, standing-more, standing-place, standing-stop, standing-end}
+use Rattle.words.proofs.Passed.{header-facts}
+use Rattle.words.proofs.check.RowsAllowed.{Checked, checked-none, checked-more, checked-place, checked-stop, checked-end}
 use Rattle.words.proofs.check.rows_allowed.Statement.{statement}
 use Rattle.words.proofs.check.rows_allowed.Tie as tie
 
 abbrev Inv-loop : tie.InvT-loop
-Inv-loop w cells n table₀ i₀ table i = Standing w cells table i
+Inv-loop w cells n table₀ i₀ table i = Checked w cells table i
 
 abbrev μ-loop : tie.MeasureT-loop
 μ-loop w cells n table₀ i₀ table i = n - i
@@ -24,7 +25,7 @@ shared-slice-read-n : tie.Need-shared-slice-read-n Inv-loop μ-loop
 shared-slice-read-n c = let facts = header-facts _ (c .before .before .before .before .pre) in omega arith
 
 loop-holds : tie.Need-loop-holds Inv-loop μ-loop
-loop-holds c = standing-none _ _ _ _ (c .before .before .before .before .pre) (c .before .before .shape-of .ensures) (c .before .box-of .ensures) refl
+loop-holds c = checked-none _ _ _ _ (c .before .before .before .before .pre) (c .before .before .shape-of .ensures) (c .before .box-of .ensures) refl
 
 slice-aggregate-mark : tie.Need-slice-aggregate-mark Inv-loop μ-loop
 slice-aggregate-mark c = sym (c .before .before .loop .inv .sized)
@@ -45,10 +46,10 @@ mark-requires : tie.Need-mark-requires Inv-loop μ-loop
 mark-requires c κs = c .before .before .before .loop .inv .sized
 
 stands-requires : tie.Need-stands-requires Inv-loop μ-loop
-stands-requires c κs = standing-place _ _ _ _ _ (c .before .before .before .before .before .loop .inv) (c .before .before .before .before .loop-test .taken) (c .before .mark .ensures .0)
+stands-requires c κs = checked-place _ _ _ _ _ (c .before .before .before .before .before .loop .inv) (c .before .before .before .before .loop-test .taken) (c .before .mark .ensures .0)
 
 returns : tie.Need-returns Inv-loop μ-loop
-returns c = standing-stop _ _ _ _ _ (c .before .before .before .before .before .before .before .loop .inv) (c .before .before .before .before .before .before .loop-test .taken) (c .before .stands .ensures) (c .if1 .taken)
+returns c = checked-stop _ _ _ _ _ (c .before .before .before .before .before .before .before .loop .inv) (c .before .before .before .before .before .before .loop-test .taken) (c .before .stands .ensures) (c .if1 .taken)
 
 add-i : tie.Need-add-i Inv-loop μ-loop
 add-i c = omega arith
@@ -57,10 +58,10 @@ loop-less : tie.Need-loop-less Inv-loop μ-loop
 loop-less c = omega arith
 
 loop-again : tie.Need-loop-again Inv-loop μ-loop
-loop-again c = standing-more _ _ _ _ _ _ (c .before .before .before .before .before .before .before .loop .inv) (c .before .before .before .before .before .before .loop-test .taken) (c .before .stands .ensures) (c .if1 .left) (c .before .before .before .mark .ensures .1) (c .before .before .before .mark .kept .0)
+loop-again c = checked-more _ _ _ _ _ _ (c .before .before .before .before .before .before .before .loop .inv) (c .before .before .before .before .before .before .loop-test .taken) (c .before .stands .ensures) (c .if1 .left) (c .before .before .before .mark .ensures .1) (c .before .before .before .mark .kept .0)
 
 returns-2 : tie.Need-returns-2 Inv-loop μ-loop
-returns-2 c = standing-end _ _ _ _ (c .before .loop .inv) (c .loop-test .left)
+returns-2 c = checked-end _ _ _ _ (c .before .loop .inv) (c .loop-test .left)
 
 pub rows-allowed-spec : {M : Type 1} → statement M
 rows-allowed-spec =

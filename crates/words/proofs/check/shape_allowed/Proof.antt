@@ -1,6 +1,9 @@
 -- `shape_allowed` meets its contract.
+use mathlib.Core.Bool.{true}
 use borrow.Author.Needs.{needs}
-use Rattle.words.specs.Format.{shape-allowed}
+use Rattle.slices.specs.Choices.{both}
+use Rattle.slices.proofs.Choices.{both-comm}
+use Rattle.words.specs.Format.{within, each, shape-allowed}
 use Rattle.words.proofs.check.shape_allowed.Statement.{statement}
 use Rattle.words.proofs.check.shape_allowed.Tie as tie
 
@@ -26,8 +29,8 @@ both-requires-3 : tie.Need-both-requires-3
 both-requires-3 c κs = search needs
 
 returns : tie.Need-returns
-unfolding shape-allowed
-returns c = cc
+unfolding shape-allowed each both
+returns c = cc (both-comm (within 1 1048576 (c .before .before .before .before .before .before .before .args .s .rz)) true)
 
 pub shape-allowed-spec : {M : Type 1} → statement M
 shape-allowed-spec =

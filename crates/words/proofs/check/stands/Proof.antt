@@ -4,7 +4,7 @@ use borrow.Author.Needs.{needs}
 use borrow.Author.Tests.{not-true}
 use Rattle.hypervolume.specs.Cells.{box}
 use Rattle.words.specs.Archive.{reference}
-use Rattle.words.proofs.Checking.{stands-test, first-failed, stands-unmet, stands-searched}
+use Rattle.words.proofs.check.StandsLaws.{first-failed, stands-test, stands-unmet, stands-searched}
 use Rattle.words.proofs.check.stands.Statement.{statement}
 use Rattle.words.proofs.check.stands.Tie as tie
 

@@ -3,7 +3,9 @@ use native.Mathlib.Omega.{arith}
 use lib.ListN.{length-set}
 use lib.Seq.{sets-eq}
 use borrow.Author.Needs.{needs}
-use Rattle.words.specs.Places.{as-shape, header-words}
+use Rattle.slices.specs.Put.{put}
+use Rattle.words.specs.Layout.{header-words}
+use Rattle.words.specs.Places.{as-shape}
 use Rattle.words.proofs.header.put_header.Statement.{statement}
 use Rattle.words.proofs.header.put_header.Tie as tie
 
@@ -35,6 +37,7 @@ same-length : tie.Need-same-length
 same-length c = search needs
 
 returns : tie.Need-returns
+unfolding put
 returns c = sets-eq (header-words (c .args .count) (as-shape (c .args .s)) (c .args .total)) (c .args .w .now) 0 (c .pre)
 
 pub put-header-spec : {M : Type 1} → statement M

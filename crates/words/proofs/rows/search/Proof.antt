@@ -2,7 +2,7 @@
 -- records left.
 use Prim.Native.Nat.{_-_}
 use native.Mathlib.Omega.{arith}
-use Rattle.words.proofs.Places.{Unfound, search-none, search-more, search-stop, search-end}
+use Rattle.words.proofs.rows.SearchLaws.{Unfound, search-none, search-more, search-stop, search-end}
 use Rattle.words.proofs.rows.search.Statement.{statement}
 use Rattle.words.proofs.rows.search.Tie as tie
 

@@ -33,10 +33,10 @@ bit-or-right : (a s : ℕ) → bitOr a (2 ^ s) / 2 ^ s % 2 ≡ 1
 bit-or-right a s = bit-or a (2 ^ s) s ∙ rw (div-self (pow-pos s)) (max-eq-right (bit-small (a / 2 ^ s)))
 
 -- The word that the code stores at the number's place: the old one with the number's bit.
-abbrev pub stored : List ℕ → ℕ → ℕ
-stored t n = bitOr (getD t (n % 65536 / 64) 0) (1 * 2 ^ (n % 64) % 2 ^ 64)
+abbrev pub with-bit : List ℕ → ℕ → ℕ
+with-bit t n = bitOr (getD t (n % 65536 / 64) 0) (1 * 2 ^ (n % 64) % 2 ^ 64)
 
-pub marking : (t : List ℕ) (n : ℕ) → length t ≡ 1024 → Marking t (set t (n % 65536 / 64) (stored t n)) n
+pub marking : (t : List ℕ) (n : ℕ) → length t ≡ 1024 → Marking t (set t (n % 65536 / 64) (with-bit t n)) n
 unfolding marked
 marking t n l =
     record {
@@ -50,15 +50,15 @@ marking t n l =
     one : 1 * 2 ^ (n % 64) % 2 ^ 64 ≡ 2 ^ (n % 64)
     one = shl-exact 1 (n % 64) 64 (lit< tt) (omega arith) ∙ one-mul (2 ^ (n % 64))
 
-    new : getD (set t (n % 65536 / 64) (stored t n)) (n % 65536 / 64) 0 / 2 ^ (n % 64) % 2 ≡ 1
+    new : getD (set t (n % 65536 / 64) (with-bit t n)) (n % 65536 / 64) 0 / 2 ^ (n % 64) % 2 ≡ 1
     new =
-        rw (getD-set-same t (n % 65536 / 64) (stored t n) 0 inside, one)
+        rw (getD-set-same t (n % 65536 / 64) (with-bit t n) 0 inside, one)
         (bit-or-right (getD t (n % 65536 / 64) 0) (n % 64))
 
     stays : (m : ℕ) → getD t (m % 65536 / 64) 0 / 2 ^ (m % 64) % 2 ≡ 1 → Dec (m % 65536 / 64 ≡ n % 65536 / 64)
-        → getD (set t (n % 65536 / 64) (stored t n)) (m % 65536 / 64) 0 / 2 ^ (m % 64) % 2 ≡ 1
+        → getD (set t (n % 65536 / 64) (with-bit t n)) (m % 65536 / 64) 0 / 2 ^ (m % 64) % 2 ≡ 1
     stays m e (yes same) =
         let kept : getD t (n % 65536 / 64) 0 / 2 ^ (m % 64) % 2 ≡ 1 = rw same at e in
-        rw (same, getD-set-same t (n % 65536 / 64) (stored t n) 0 inside)
+        rw (same, getD-set-same t (n % 65536 / 64) (with-bit t n) 0 inside)
         (bit-or-left (getD t (n % 65536 / 64) 0) (1 * 2 ^ (n % 64) % 2 ^ 64) (m % 64) kept)
-    stays m e (no differ) = rw (getD-set-other t (n % 65536 / 64) (m % 65536 / 64) (stored t n) 0 differ) e
+    stays m e (no differ) = rw (getD-set-other t (n % 65536 / 64) (m % 65536 / 64) (with-bit t n) 0 differ) e

@@ -1,5 +1,4 @@
--- Rows 1 to 3 seen from a call: a call that is done has passed them and its own rows; one that is lent a first part
--- of an archive's words that is too short is turned down by row 1.
+-- Row 1 for a call that is lent only a first part of an archive's words.
 use Prim.Native.Nat.{ℕ, suc, _≤_, _<_, min}
 use mathlib.Core.Path.{_≡_, refl}
 use mathlib.Core.Bool.{Bool, true, false, not}
@@ -8,27 +7,11 @@ use native.Mathlib.Omega.{arith}
 use lib.Dec.{ltb}
 use lib.ListN.{length, take, length-take}
 use lib.Seq.{getD-take}
-use borrow.Author.Tests.{lt-ltb, not-false}
+use borrow.Author.Tests.{lt-ltb}
 use Rattle.hypervolume.proofs.Tests.{Compared, above, compared}
-use Rattle.words.specs.Layout.{extent, word, read-shape}
 use Rattle.words.specs.Format.{guard, header-allowed, archive-rows}
-use Rattle.words.proofs.Passed.{guard-none}
-
-none-guard : (t : Bool) (n rest : ℕ) → t ≡ false → rest ≡ 0 → guard t n rest ≡ 0
-unfolding guard
-none-guard t n rest p q = rw (p, q)
-
-pub passed-both : (w : List ℕ) (rest : ℕ) → archive-rows w rest ≡ 0 → (archive-rows w 0 ≡ 0) × (rest ≡ 0)
-unfolding archive-rows
-passed-both w rest e =
-    let first = guard-none _ _ _ e in
-    let second = guard-none _ _ _ (first .1) in
-    let third = guard-none _ _ _ (second .1) in
-    let fourth = guard-none _ _ _ (third .1) in (
-      none-guard _ _ _ (first .0)
-          (none-guard _ _ _ (second .0) (none-guard _ _ _ (third .0) (none-guard _ _ _ (fourth .0) refl))),
-      fourth .1,
-    )
+use Rattle.words.specs.Layout.{extent, word, read-shape}
+use Rattle.words.proofs.Passed.{unrefused}
 
 part-header : (n : ℕ) (w : List ℕ) → 8 ≤ n → header-allowed (take n w) ≡ header-allowed w
 unfolding header-allowed read-shape
@@ -43,13 +26,6 @@ part-header n w l =
       getD-take n w 6 0 (omega arith),
       getD-take n w 7 0 (omega arith),
     )
-
-passed-header : (w : List ℕ) → archive-rows w 0 ≡ 0 → header-allowed w ≡ true
-unfolding archive-rows
-passed-header w e =
-    let first = guard-none _ _ _ e in
-    let second = guard-none _ _ _ (first .1) in
-    not-false _ (second .0)
 
 -- Row 1: "fewer than 8 words; or, after row 2 has passed, fewer than 8 + 5 × capacity".
 pub part-short : (w : List ℕ) (n rest : ℕ) → archive-rows w 0 ≡ 0 → n < extent (word w 1) → archive-rows (take n w) rest ≡ 1
@@ -66,4 +42,4 @@ part-short w n rest e l =
     go false (above m) more =
         let enough : 8 ≤ n = omega (arith, size) in
         let short : length (take n w) < extent (word w 1) = omega (arith, size) in
-        rw (part-header n w enough, passed-header w e, getD-take n w 1 0 (omega arith), lt-ltb (length (take n w)) (extent (word w 1)) short)
+        rw (part-header n w enough, unrefused w 0 e .headed .allowed, getD-take n w 1 0 (omega arith), lt-ltb (length (take n w)) (extent (word w 1)) short)

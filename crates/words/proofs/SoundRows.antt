@@ -1,17 +1,13 @@
--- Laws of the tests of row 3 on lists: one list behind the other, one trial more at the end, a first part, and by index.
-use Prim.Native.Nat.{ℕ, zero, suc, _<_}
+-- Laws of the tests of row 3 on lists: one list behind the other, one trial more at the end, a first part.
 use mathlib.Core.Path.{_≡_, refl, sym, ap, _∙_}
 use mathlib.Core.Bool.{Bool, true, false, not}
 use mathlib.Core.List.{List, _∷_, _++_, []}
-use native.Mathlib.Omega.{arith}
 use lib.Dec.{eqb}
-use lib.ListN.{length, getD}
-use borrow.Author.Tests.{eq-eqb, ne-eqb}
 use Rattle.slices.specs.Choices.{both, either}
-use Rattle.hypervolume.proofs.Tests.{Equated, same, differs, equated}
-use Rattle.slices.proofs.Choices.{either-assoc, either-none, both-true, both-intro, both-comm, both-assoc}
+use Rattle.slices.proofs.Choices.{both-true, both-intro, both-comm, both-assoc}
 use Rattle.words.specs.Archive.{Trial, Row, Shape, trials, before}
-use Rattle.words.specs.Format.{row-allowed, rows-allowed, ordered, held, distinct}
+use Rattle.words.specs.Format.{row-allowed, rows-allowed, ordered, held, distinct, sound-rows}
+use Rattle.words.proofs.Held.{eqb-sym, held-append, held-snoc}
 
 pub trials-append : (a b : List Row) → trials (a ++ b) ≡ trials a ++ trials b
 unfolding trials
@@ -24,29 +20,12 @@ rows-allowed-append s [] b = refl
 rows-allowed-append s (r ∷ a) b =
     rw (rows-allowed-append s a b) (sym (both-assoc (row-allowed s r) (rows-allowed s a) (rows-allowed s b)))
 
-pub held-append : (n : ℕ) (a b : List Trial) → held n (a ++ b) ≡ either (held n a) (held n b)
-unfolding held either
-held-append n [] b = refl
-held-append n (t ∷ a) b = rw (held-append n a b) (sym (either-assoc (eqb (t .number) n) (held n a) (held n b)))
-
--- One trial more at the end.
-pub held-snoc : (n : ℕ) (a : List Trial) (t : Trial) → held n (a ++ (t ∷ [])) ≡ either (held n a) (eqb (t .number) n)
-unfolding held
-held-snoc n a t = held-append n a (t ∷ []) ∙ ap (either (held n a)) (either-none (eqb (t .number) n))
-
-eqb-comm : (a b : ℕ) → eqb a b ≡ eqb b a
-eqb-comm a b = go (eqb b a) (equated b a)
-  where
-    go : (t : Bool) → Equated b a t → eqb a b ≡ t
-    go true (same e) = eq-eqb a b (sym e)
-    go false (differs e) = ne-eqb a b (λ f. e (sym f))
-
 -- No number twice, with one trial more at the end: no earlier trial has its number.
 pub distinct-snoc : (a : List Trial) (t : Trial) → distinct (a ++ (t ∷ [])) ≡ both (distinct a) (not (held (t .number) a))
 unfolding distinct held both either
 distinct-snoc [] t = refl
 distinct-snoc (u ∷ a) t =
-    rw (distinct-snoc a t, held-snoc (u .number) a t, eqb-comm (t .number) (u .number))
+    rw (distinct-snoc a t, held-snoc (u .number) a t, eqb-sym (t .number) (u .number))
     (shuffle (held (u .number) a) (eqb (u .number) (t .number)) (distinct a) (held (t .number) a))
   where
     shuffle : (p q d h : Bool) → both (not (either p q)) (both d (not h)) ≡ both (both (not p) d) (not (either q h))
@@ -86,19 +65,20 @@ distinct-part (t ∷ a) b e =
     fewer true q e = e
     fewer false q e = refl
 
--- Held and not held, by index.
-pub held-at : (rows : List Row) (i : ℕ) (d : Row) → i < length rows → held (getD rows i d .trial .number) (trials rows) ≡ true
-unfolding held trials either
-held-at [] i d l = absurd (let no : ⊥ = omega arith in no)
-held-at (r ∷ rows) zero d l = rw (eq-eqb (r .trial .number) (r .trial .number) refl)
-held-at (r ∷ rows) (suc i) d l = rw (held-at rows i d (omega arith)) (either-all (eqb (r .trial .number) (getD rows i d .trial .number)))
-  where
-    either-all : (b : Bool) → either b true ≡ true
-    either-all true = refl
-    either-all false = refl
+-- Records of which a first part breaks row 3.
+sound-rows-front : (s : Shape) (a b : List Row) → sound-rows s (a ++ b) ≡ true → sound-rows s a ≡ true
+unfolding sound-rows
+sound-rows-front s a b e =
+    let rows = both-true _ _ e in
+    let rest = both-true _ _ (rows .1) in
+    both-intro _ _ (rows-allowed-part s a b (rows .0))
+    (both-intro _ _
+    (ordered-part (trials a) (trials b) (ap ordered (sym (trials-append a b)) ∙ rest .0))
+    (distinct-part (trials a) (trials b) (ap distinct (sym (trials-append a b)) ∙ rest .1)))
 
-pub held-none : (n : ℕ) (rows : List Row) (d : Row) → ((i : ℕ) → i < length rows → getD rows i d .trial .number ≡ n → ⊥) → held n (trials rows) ≡ false
-unfolding held trials either
-held-none n [] d h = refl
-held-none n (r ∷ rows) d h =
-    rw (ne-eqb (r .trial .number) n (h 0 (omega arith))) (held-none n rows d (λ i l. h (suc i) (omega arith)))
+pub sound-rows-part : (s : Shape) (a b : List Row) → sound-rows s a ≡ false → sound-rows s (a ++ b) ≡ false
+sound-rows-part s a b f = go (sound-rows s (a ++ b)) refl
+  where
+    go : (t : Bool) → sound-rows s (a ++ b) ≡ t → t ≡ false
+    go true e = sym (sound-rows-front s a b e) ∙ f
+    go false e = refl
