@@ -1,10 +1,8 @@
 -- Laws of the lines of a card: what is left of it from a line on.
-use Prim.Native.Nat.{ℕ, zero, suc, _+_, _*_, _≤_, _<_}
-use mathlib.Core.Path.{_≡_, refl, ap, _∙_}
+use Prim.Native.Nat.{ℕ, zero, suc, _+_, _-_, _*_, _≤_, _<_}
+use mathlib.Core.Path.{_≡_, refl, sym, ap, _∙_}
 use mathlib.Core.List.{List, _∷_, []}
-use mathlib.Core.Option.{none, some}
 use native.Mathlib.Omega.{arith}
-use native.Mathlib.Nat.{zero-add, suc-add}
 use lib.ListN.{length, take, drop, length-take, length-drop}
 use lib.Seq.{drop-drop, take-nil, take-take, getD-take}
 use Rattle.text.specs.Fields.{field-from}
@@ -36,12 +34,17 @@ pub no-line-left : (card : List ℕ) (i : ℕ) → line-count card ≤ i → lin
 unfolding line-count
 no-line-left card i l = lines-none (drop (33 * i) card) (omega (arith, length-drop (33 * i) card))
 
+drop-take : (from m : ℕ) (l : List ℕ) → drop from (take m l) ≡ take (m - from) (drop from l)
+drop-take zero m l = let all : m - 0 ≡ m = omega arith in rw all
+drop-take (suc from) zero l = let none : 0 - suc from ≡ 0 = omega arith in rw none
+drop-take (suc from) (suc m) [] = sym (take-nil (suc m - suc from))
+drop-take (suc from) (suc m) (x ∷ l) =
+    let step : suc m - suc from ≡ m - from = omega arith in
+    rw step (drop-take from m l)
+
 -- What lies within the first k bytes.
 window : (m n k : ℕ) (bytes : List ℕ) → m + n ≤ k → take n (drop m (take k bytes)) ≡ take n (drop m bytes)
-window zero n k bytes l = take-take n k bytes (omega arith)
-window (suc m) n zero bytes l = absurd (let no′ : ⊥ = omega arith in no′)
-window (suc m) n (suc k) [] l = refl
-window (suc m) n (suc k) (b ∷ bytes) l = window m n k bytes (omega arith)
+window m n k bytes l = ap (take n) (drop-take m k bytes) ∙ take-take n (k - m) (drop m bytes) (omega arith)
 
 -- A line is its first 33 bytes.
 line-take : (k : ℕ) (bytes : List ℕ) → 33 ≤ k → line (take k bytes) ≡ line bytes
@@ -55,24 +58,21 @@ line-take k bytes l =
       window 24 8 k bytes (omega arith),
     )
 
-drop-take : (m n : ℕ) (bytes : List ℕ) → drop m (take (m + n) bytes) ≡ take n (drop m bytes)
-drop-take zero n bytes = rw zero-add
-drop-take (suc m) n [] = rw (suc-add m n, take-nil n)
-drop-take (suc m) n (b ∷ bytes) = rw (suc-add m n) (drop-take m n bytes)
-
 -- The first m lines.
 pub lines-take : (m : ℕ) (bytes : List ℕ) → lines (take (33 * m) bytes) ≡ take m (lines bytes)
 lines-take zero bytes = lines-none [] refl
 lines-take (suc m) [] = rw (take-nil (33 * suc m), lines-none [] refl)
 lines-take (suc m) (b ∷ bytes) =
     let more : 33 * suc m ≡ 33 + 33 * m = omega arith in
+    let rest : 33 + 33 * m - 33 ≡ 33 * m = omega arith in
     let all : List ℕ = b ∷ bytes in
     let long : 0 < length (take (33 + 33 * m) all) = omega (arith, length-take (33 + 33 * m) all) in
     rw (
       more,
       lines-more (take (33 + 33 * m) all) long,
       line-take (33 + 33 * m) all (omega arith),
-      drop-take 33 (33 * m) all,
+      drop-take 33 (33 + 33 * m) all,
+      rest,
       lines-take m (drop 33 all),
       lines-more all (omega arith),
     )

@@ -4,8 +4,8 @@ use mathlib.Core.Path.{_≡_, refl}
 use mathlib.Core.List.{List, _∷_, _++_, []}
 use mathlib.Core.Option.{none, some}
 use lib.ListN.{replicate}
-use Rattle.text.specs.Fields.{space, digit, is-digit, decimal, number, field, field-from}
 use Rattle.slices.specs.Choices.{pick}
+use Rattle.text.specs.Fields.{space, digit, is-digit, decimal, number, field, field-from}
 use Rattle.text.specs.Lines.{newline, four, line}
 use Rattle.text.specs.Justified.{digits, justified, line-of}
 

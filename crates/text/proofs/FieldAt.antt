@@ -12,8 +12,8 @@ use lib.Dec.{lit<}
 use lib.ListN.{length, getD, take, drop}
 use lib.Seq.{slice, slice-cons, slice-empty, length-take-le, take-add, drop-at}
 use borrow.Author.Tests.{ne-eqb}
-use Rattle.text.specs.Fields.{space, is-digit, decimal, number, field, field-from, Part}
 use Rattle.slices.specs.Choices.{pick}
+use Rattle.text.specs.Fields.{space, is-digit, decimal, number, field, field-from, Part}
 use Rattle.text.proofs.Fields.{digit-high, decimal-digit, decimal-stop, field-empty, field-space, field-number}
 
 -- The bytes from i up to the end are the one at i and those from the next on.

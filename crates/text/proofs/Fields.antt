@@ -8,8 +8,8 @@ use native.Mathlib.Omega.{arith}
 use lib.Dec.{leb, eqb}
 use lib.ListN.{replicate}
 use borrow.Author.Tests.{leb-true, le-leb, eqb-true, eqb-false, ne-eqb}
-use Rattle.text.specs.Fields.{space, is-digit, decimal, number, field}
 use Rattle.slices.specs.Choices.{pick}
+use Rattle.text.specs.Fields.{space, is-digit, decimal, number, field}
 
 pub digit-yes : (b : ℕ) → 48 ≤ b → b ≤ 57 → is-digit b ≡ true
 unfolding is-digit

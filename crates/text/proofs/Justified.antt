@@ -13,8 +13,8 @@ use lib.Dec.{eqb, lit<}
 use lib.ListN.{length, length-append, length-replicate}
 use lib.Seq.{append-snoc}
 use borrow.Author.Tests.{lt-ltb, le-ltb, eqb-true, eqb-false, ne-eqb}
-use Rattle.text.specs.Fields.{space, digit, is-digit, decimal, number, field}
 use Rattle.slices.specs.Choices.{pick}
+use Rattle.text.specs.Fields.{space, digit, is-digit, decimal, number, field}
 use Rattle.text.specs.Justified.{digits, justified}
 use Rattle.text.proofs.Fields.{digit-yes, digit-low, digit-high, decimal-digit, decimal-begin, decimal-end, decimal-snoc, field-empty, field-space, field-spaces, field-number, field-of-number}
 

@@ -9,13 +9,13 @@ use lib.Dec.{eqb}
 use lib.ListN.{length, take, set, getD, replicate, length-append}
 use lib.Seq.{take-length, take-take, take-at, getD-take, getD-append-add}
 use borrow.Author.Tests.{ne-eqb}
-use Rattle.text.specs.Fields.{space, digit}
 use Rattle.slices.specs.Choices.{pick}
-use Rattle.text.specs.Justified.{digits, justified, ColumnRoom}
 use Rattle.slices.specs.Put.{put}
-use Rattle.text.proofs.Justified.{digits-one, digits-more}
 use Rattle.slices.proofs.Put.{put-one, put-ahead}
 use Rattle.slices.proofs.Loops.{Filled, filled-none, filled-more, filled-end}
+use Rattle.text.specs.Fields.{space, digit}
+use Rattle.text.specs.Justified.{digits, justified, ColumnRoom}
+use Rattle.text.proofs.Justified.{digits-one, digits-more}
 
 -- The bytes in front of the last digit, when m is what is left of the number: its digits behind spaces, and
 -- spaces alone where nothing is left.

@@ -4,8 +4,8 @@ use Prim.Native.Nat.{ℕ, zero, suc, _+_, _-_, _/_, _%_, _≤_}
 use mathlib.Core.List.{List, _∷_, _++_, []}
 use lib.Dec.{ltb}
 use lib.ListN.{length, replicate}
-use Rattle.text.specs.Fields.{space, digit}
 use Rattle.slices.specs.Choices.{pick}
+use Rattle.text.specs.Fields.{space, digit}
 use Rattle.text.specs.Lines.{Numbers, newline}
 
 -- The decimal digits of n; the last `most` of them where it has more.

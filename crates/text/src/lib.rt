@@ -4,11 +4,11 @@ ghost use Prim.Native.Nat.{_+_, _%_, _≤_};
 ghost use lib.Dec.{eqb};
 ghost use lib.ListN.{length};
 ghost use lib.Seq.{slice};
-ghost use Rattle.text.specs.Fields.{space, digit, is-digit, decimal, number, field-from, value-of, Part};
 ghost use Rattle.slices.specs.Choices.{pick};
+ghost use Rattle.slices.specs.Put.{put};
+ghost use Rattle.text.specs.Fields.{space, digit, is-digit, decimal, number, field-from, value-of, Part};
 ghost use Rattle.text.specs.Lines.{four, line-from, numbers-of};
 ghost use Rattle.text.specs.Justified.{justified, ColumnRoom};
-ghost use Rattle.slices.specs.Put.{put};
 
 // What the reading of a field answers.
 pub enum Field {

@@ -8,7 +8,7 @@ use lib.Dec.{ltb}
 use lib.ListN.{length}
 use borrow.Author.Tests.{lt-ltb, le-ltb}
 use Rattle.slices.specs.Choices.{pick}
-use Rattle.text.specs.Lines.{Numbers, line, line-from}
+use Rattle.text.specs.Lines.{Numbers, line-from}
 use Rattle.card.specs.Card.{line-count, due}
 
 due-at : (card : List ℕ) (line : ℕ) → (line ≡ 0 → ⊥)

@@ -4,7 +4,7 @@ use mathlib.Core.Path.{_≡_, sym, ap, _∙_}
 use mathlib.Core.List.{List}
 use native.Mathlib.Omega.{arith}
 use lib.ListN.{length}
-use Rattle.words.specs.Layout.{extent, read}
+use Rattle.words.specs.Layout.{extent}
 use Rattle.card.specs.declared.Loaded.{Loaded}
 use Rattle.card.specs.Card.{lines, refused, accepted, load, ReadInto}
 use Rattle.card.specs.Check.{packed, check}

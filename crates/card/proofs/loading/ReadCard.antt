@@ -7,8 +7,8 @@ use mathlib.Core.Option.{Option, none, some}
 use native.Mathlib.Omega.{arith}
 use lib.Dec.{ltb}
 use lib.ListN.{length, drop}
-use Rattle.hypervolume.proofs.Tests.{Compared, below, above, compared}
 use Rattle.slices.specs.Choices.{pick}
+use Rattle.hypervolume.proofs.Tests.{Compared, below, above, compared}
 use Rattle.text.specs.Lines.{Numbers, line-from, numbers-of}
 use Rattle.text.specs.declared.Line.{Line}
 use Rattle.text.specs.declared.Line.the-variants.{Values, Malformed}

@@ -4,9 +4,9 @@ use mathlib.Core.Path.{_≡_, refl, sym, ap, _∙_}
 use mathlib.Core.List.{List, append-assoc}
 use native.Mathlib.Omega.{arith}
 use lib.ListN.{length, drop, set, replicate, length-append, length-take, length-replicate}
+use Rattle.slices.specs.Put.{put}
 use Rattle.text.specs.Lines.{newline}
 use Rattle.text.specs.Justified.{justified}
-use Rattle.slices.specs.Put.{put}
 use Rattle.text.proofs.Justified.{length-justified}
 use Rattle.reports.proofs.Laid.{Laid, laid-column, laid-byte}
 use Rattle.words.specs.Layout.{word, extent, read}

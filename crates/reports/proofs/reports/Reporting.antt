@@ -6,11 +6,11 @@ use native.Mathlib.Omega.{arith}
 use lib.Dec.{ltb}
 use lib.ListN.{length, drop, set, length-append}
 use borrow.Author.Tests.{lt-ltb, le-ltb}
+use Rattle.slices.specs.Put.{put}
+use Rattle.slices.proofs.Put.{put-none}
 use Rattle.text.specs.Lines.{newline}
 use Rattle.text.specs.Justified.{justified}
-use Rattle.slices.specs.Put.{put}
 use Rattle.text.proofs.Justified.{length-justified}
-use Rattle.slices.proofs.Put.{put-none}
 use Rattle.reports.proofs.Laid.{Laid, laid-more, laid-column, laid-byte}
 use Rattle.words.specs.Archive.{Row, Shape, Archive}
 use Rattle.words.specs.Layout.{word, read, read-shape, read-rows}
