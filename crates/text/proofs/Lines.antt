@@ -8,7 +8,7 @@ use native.Mathlib.Nat.{add-zero}
 use native.Mathlib.Decide.{decLe}
 use native.Mathlib.Omega.{arith}
 use lib.Dec.{eqb, lit≤}
-use lib.ListN.{length, take, drop, getD, length-append, length-drop, take-append-drop, List·getD-eq-default}
+use lib.ListN.{length, take, drop, getD, length-drop, take-append-drop, List·getD-eq-default}
 use lib.Seq.{drop-drop, getD-drop, take-at, drop-cons, drop-append-add, getD-append-add, length-take-le}
 use borrow.Author.Tests.{eqb-true, eqb-false, eq-eqb, ne-eqb}
 use Rattle.slices.specs.Choices.{pick}
@@ -82,10 +82,6 @@ line-of-append : (v : Numbers) (rest : List ℕ)
     ≡ justified 8 (v .first) ++ (justified 8 (v .second) ++ (justified 8 (v .third) ++ (justified 8 (v .fourth) ++ (newline ∷ rest))))
 unfolding line-of
 line-of-append v rest = simp append-assoc
-
-pub length-line-of : (v : Numbers) → length (line-of v) ≡ 33
-unfolding line-of
-length-line-of v = simp (length-append, length-justified)
 
 -- A line of four columns reads back, whatever is behind it.
 pub line-line-of : (v : Numbers) (rest : List ℕ) → Fitting v → line (line-of v ++ rest) ≡ some v
