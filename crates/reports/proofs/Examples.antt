@@ -15,11 +15,11 @@ use Rattle.words.specs.Format.{guard, within, shape-allowed, number-allowed, co
 use Rattle.words.proofs.Reading.{read-layout}
 use Rattle.archive.specs.Calls.{empty, place, insert-gain, joint-with, lowered, inserted, admission-rows}
 use Rattle.card.specs.Card.{shape-on, trial-on, line-count, lines-from, lines, accepted}
+use Rattle.card.specs.Verdict.{archive, in-turn, shape-rows, judge-further, judge, carried-out}
+use Rattle.card.proofs.Judging.{loads}
 use Rattle.reports.specs.Report.{report-line, head-line, record-line, record-lines, report-text}
 use Rattle.reports.specs.Printed.{shown, loaded, printed}
-use Rattle.card.specs.Verdict.{archive, in-turn, shape-rows, judge-further, judge, carried-out}
 use Rattle.reports.specs.Example.{example-card, example-report}
-use Rattle.card.proofs.Judging.{loads}
 
 -- The archive of the card.
 example : Archive

@@ -8,18 +8,18 @@ use Rattle.slices.specs.Put.{put}
 use Rattle.text.specs.Lines.{newline}
 use Rattle.text.specs.Justified.{justified}
 use Rattle.text.proofs.Justified.{length-justified}
-use Rattle.reports.proofs.Laid.{Laid, laid-column, laid-byte}
 use Rattle.words.specs.Layout.{word, extent, read}
 use Rattle.words.proofs.Reading.{read-layout}
 use Rattle.archive.specs.declared.Answer.{Answer}
 use Rattle.card.specs.declared.Loaded.{Loaded}
 use Rattle.card.specs.Card.{lines, Loading, refused, accepted, load, ReadInto}
-use Rattle.reports.specs.Report.{report-text, report, reported}
 use Rattle.card.specs.Verdict.{Verdict, refusal, archive, judge, carried-out}
-use Rattle.reports.specs.Printed.{refusal-line, shown, loaded, printed, Prints}
 use Rattle.card.proofs.Judging.{loads}
 use Rattle.card.proofs.Verdicts as verdicts
 use Rattle.card.proofs.Theorems.{not-zero, cards-load}
+use Rattle.reports.specs.Report.{report-text, report, reported}
+use Rattle.reports.specs.Printed.{refusal-line, shown, loaded, printed, Prints}
+use Rattle.reports.proofs.Laid.{Laid, laid-column, laid-byte}
 use Rattle.reports.proofs.reports.Reporting.{Reportable, reportable, length-report, report-done}
 
 length-refusal-line : (n line : ℕ) → length (refusal-line n line) ≡ 17

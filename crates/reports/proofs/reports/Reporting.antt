@@ -11,7 +11,6 @@ use Rattle.slices.proofs.Put.{put-none}
 use Rattle.text.specs.Lines.{newline}
 use Rattle.text.specs.Justified.{justified}
 use Rattle.text.proofs.Justified.{length-justified}
-use Rattle.reports.proofs.Laid.{Laid, laid-more, laid-column, laid-byte}
 use Rattle.words.specs.Archive.{Row, Shape, Archive}
 use Rattle.words.specs.Layout.{word, read, read-shape, read-rows}
 use Rattle.words.specs.Format.{guard, archive-rows}
@@ -22,6 +21,7 @@ use Rattle.words.proofs.Places.{rows-before-more}
 use Rattle.archive.specs.declared.Answer.{Answer}
 use Rattle.archive.specs.Lent.{answer}
 use Rattle.reports.specs.Report.{report-line, head-line, record-line, record-lines, report-text, report-rows, report, output, reported, ReportRoom}
+use Rattle.reports.proofs.Laid.{Laid, laid-more, laid-column, laid-byte}
 
 pub length-report-line : (a b c d e : ℕ) → length (report-line a b c d e) ≡ 53
 unfolding report-line
