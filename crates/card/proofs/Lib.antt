@@ -1,11 +1,5 @@
--- Laws of cards and reports.
-pub mod Cards
+-- Laws of cards that serve more than one module: their lines, the verdict on them, and the theorems.
+pub mod CardLines
 pub mod Judging
 pub mod Verdicts
-pub mod Reporting
 pub mod Theorems
-pub mod ReadBack
-pub mod LineByLine
-pub mod Copying
-pub mod Printouts
-pub mod Examples

@@ -1,5 +1,5 @@
 -- The proofs of what specs/Theorems states.
-use Prim.Native.Nat.{ℕ, _+_, _*_, _≤_, min}
+use Prim.Native.Nat.{ℕ, _*_, _≤_, min}
 use mathlib.Core.Path.{_≡_, refl, sym, ap, _∙_}
 use mathlib.Core.List.{List, _++_}
 use native.Mathlib.Omega.{arith}
@@ -8,17 +8,13 @@ use lib.Seq.{take-take}
 use Rattle.words.specs.Layout.{extent, read, layout}
 use Rattle.words.proofs.Reading.{read-layout, behind-layout}
 use Rattle.words.proofs.Passed.{sound-passes}
-use Rattle.card.specs.declared.Loaded.{Loaded}
-use Rattle.card.specs.Card.{lines, refused, accepted, load, ReadInto}
+use Rattle.card.specs.Card.{lines, refused, accepted, load}
 use Rattle.card.specs.Check.{packed, check}
 use Rattle.card.specs.Verdict.{Verdict, refusal, archive, judge, carried-out}
-use Rattle.card.specs.Printed.{shown, loaded, printed}
-use Rattle.card.specs.Theorems.{TurnedDown, form, shape, slice, number, coordinate, held, full, Accepted, Loads, Checks, EnoughRead, CardsAndReports}
-use Rattle.card.proofs.Cards.{lines-take}
+use Rattle.card.specs.Theorems.{TurnedDown, form, shape, slice, number, coordinate, held, full, Accepted, Loads, Checks, Cards}
+use Rattle.card.proofs.CardLines.{lines-take}
 use Rattle.card.proofs.Judging.{loads}
 use Rattle.card.proofs.Verdicts as verdicts
-use Rattle.card.proofs.ReadBack.{read-back}
-use Rattle.card.proofs.Examples.{example-printed}
 
 pub not-zero : {n line : ℕ} → TurnedDown n line → n ≡ 0 → ⊥
 not-zero (form l h) e = omega arith
@@ -91,44 +87,8 @@ cut : (w card : List ℕ) → load w (take (33 * 514) card) ≡ load w card
 cut w card =
     rw (loads w (take (33 * 514) card), loads w card, lines-take 514 card, verdicts.judge-cut (length w) (lines card))
 
-pub enough-read : (card : List ℕ) (k : ℕ) → 33 * 514 ≤ k → EnoughRead card k
-unfolding printed loaded
-enough-read card k l =
-    let same : (w : List ℕ) → load w (take k card) ≡ load w card =
-    λ w. sym (cut w (take k card)) ∙ ap (load w) (take-take (33 * 514) k card l) ∙ cut w card in
-    record { loaded = same; printed = ap (λ x. shown (x .answer .refusal) x) (same (replicate (extent 512) 0)) }
+pub enough-read : (w card : List ℕ) (k : ℕ) → 33 * 514 ≤ k → load w (take k card) ≡ load w card
+enough-read w card k l = sym (cut w (take k card)) ∙ ap (load w) (take-take (33 * 514) k card l) ∙ cut w card
 
-pub cards-and-reports : CardsAndReports
-cards-and-reports =
-    record {
-      loads = cards-load;
-      checks = cards-check;
-      enough-read = enough-read;
-      read-back = read-back;
-      example = example-printed;
-    }
-
--- What the check makes of an answer.
-small-row : {n line : ℕ} → TurnedDown n line → (n ≤ 15) × (line ≤ 514)
-small-row (form l h) = (omega arith, h)
-small-row shape = (omega arith, omega arith)
-small-row slice = (omega arith, omega arith)
-small-row (number l h) = (omega arith, h)
-small-row (coordinate l h) = (omega arith, h)
-small-row (held l h) = (omega arith, h)
-small-row (full l h) = (omega arith, h)
-
-small : (before : List ℕ) (v : Verdict) → verdicts.Possible v
-    → (carried-out before v .answer .refusal ≤ 15) × (carried-out before v .answer .line ≤ 514)
-unfolding carried-out refused accepted
-small before (refusal n line) (verdicts.refused d) = small-row d
-small before (archive a) (verdicts.accepted f) = (omega arith, omega arith)
-
-module _ (p card : List ℕ) {r : Loaded} {after : List ℕ} (read : ReadInto (load p card) r after) where
-  pub small-answer : (r .refusal ≤ 15) × (r .line ≤ 514)
-  small-answer =
-      rw (read .answer, loads p card) (small p (judge (length p) (lines card)) (verdicts.possible (length p) (lines card)))
-
-  pub checked : length p ≡ 2568 → r .refusal * 65536 + r .line ≡ check card
-  unfolding packed extent
-  checked long = ap packed (read .answer) ∙ sym (cards-check p card .long-enough (omega arith))
+pub cards : Cards
+cards = record { loads = cards-load; checks = cards-check; enough-read = enough-read }

@@ -6,8 +6,8 @@ use mathlib.Core.List.{List, _∷_, []}
 use mathlib.Core.Option.{Option, none, some}
 use lib.Dec.{ltb}
 use lib.ListN.{length, drop}
-use Rattle.text.specs.Fields.{choose}
-use Rattle.text.specs.Lines.{Numbers, line, lineFrom, numbersOf}
+use Rattle.slices.specs.Choices.{pick}
+use Rattle.text.specs.Lines.{Numbers, line, line-from, numbers-of}
 use Rattle.text.specs.declared.Line.{Line}
 use Rattle.text.specs.declared.Line.the-variants.{Values, Malformed}
 use Rattle.words.specs.Archive.{Trial, Shape}
@@ -40,12 +40,12 @@ lines card = lines-from (line-count card) card
 -- the last one.
 unfoldable pub due : List ℕ → ℕ → Option (Option Numbers)
 due card zero = none
-due card (suc i) = choose (ltb i (line-count card)) (some (lineFrom (33 * i) card)) none
+due card (suc i) = pick (ltb i (line-count card)) (some (line-from (33 * i) card)) none
 
 -- What the reading of the line due answers.
-abbrev pub dueOf : Due → Option (Option Numbers)
-dueOf (Next l) = some (numbersOf l)
-dueOf End = none
+abbrev pub due-of : Due → Option (Option Numbers)
+due-of (Next l) = some (numbers-of l)
+due-of End = none
 
 -- Row 15: "a line not of the form".
 unfoldable pub malformed : List ℕ → Outcome

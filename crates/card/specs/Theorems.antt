@@ -1,18 +1,14 @@
--- What is proved of cards and reports besides the contracts. The proofs are in proofs/Theorems.
+-- What is proved of cards besides the contracts. The proofs are in proofs/Theorems.
 use Prim.Native.Nat.{ℕ, _*_, _≤_}
 use mathlib.Core.Path.{_≡_}
 use mathlib.Core.List.{List}
 use lib.ListN.{length, take, drop}
-use Rattle.words.specs.Archive.{Archive, reference}
 use Rattle.words.specs.Layout.{extent, read, behind}
 use Rattle.words.specs.Format.{archive-rows}
 use Rattle.calls.specs.Counted.{IsCounted}
 use Rattle.card.specs.Card.{lines, Loading, load}
 use Rattle.card.specs.Check.{packed, check}
-use Rattle.card.specs.Report.{report-text}
 use Rattle.card.specs.Verdict.{judge, carried-out}
-use Rattle.card.specs.Printed.{printed}
-use Rattle.card.specs.Example.{example-card, example-report}
 
 -- The rows that can turn a card down, and at which lines: no other row, so not 13, and no line above 514, since an
 -- archive holds at most 512 trials.
@@ -44,23 +40,9 @@ pub record Checks (w card : List ℕ) : Type 0 where
   pub long-enough : extent 512 ≤ length w → check card ≡ packed (load w card .answer)
   pub unless-row-1 : (load w card .answer .refusal ≡ 1 → ⊥) → check card ≡ packed (load w card .answer)
 
--- Of a card only the first 514 lines matter: a program may cut it behind them.
-pub record EnoughRead (card : List ℕ) (k : ℕ) : Type 0 where
-  pub loaded : (w : List ℕ) → load w (take k card) ≡ load w card
-  pub printed : printed (take k card) ≡ printed card
-
--- A report can be read back: archives of equal reports have these in common.
-pub record ReportedAlike (a b : Archive) : Type 0 where
-  pub count : length (a .rows) ≡ length (b .rows)
-  pub reference : reference (a .shape) ≡ reference (b .shape)
-  pub total : a .sum ≡ b .sum
-  pub records : a .rows ≡ b .rows
-
 -- All of it.
-pub record CardsAndReports : Type 0 where
+pub record Cards : Type 0 where
   pub loads : (w card : List ℕ) → Loads w card
   pub checks : (w card : List ℕ) → Checks w card
-  pub enough-read : (card : List ℕ) (k : ℕ) → 33 * 514 ≤ k → EnoughRead card k
-  pub read-back : (v w : List ℕ) → archive-rows v 0 ≡ 0 → archive-rows w 0 ≡ 0 → report-text (read v) ≡ report-text (read w)
-      → ReportedAlike (read v) (read w)
-  pub example : printed example-card ≡ example-report
+  -- of a card only the first 514 lines matter: a program may cut it behind them
+  pub enough-read : (w card : List ℕ) (k : ℕ) → 33 * 514 ≤ k → load w (take k card) ≡ load w card

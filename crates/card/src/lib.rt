@@ -1,4 +1,4 @@
-// Cards, their loading and checking, and reports.
+// Cards, their loading and checking.
 
 // What loading a card answers: the refusal (0 when accepted), the card line refused, and the count of trials loaded.
 #[repr(C)]
@@ -10,8 +10,6 @@ pub struct Loaded {
 
 mod lines;
 mod loading;
-mod printing;
-mod reports;
 
 pub use lines::Due;
 pub use lines::Reader;
@@ -20,5 +18,5 @@ pub use lines::next;
 pub use lines::read_line;
 pub use loading::check;
 pub use loading::load;
-pub use printing::print;
-pub use reports::report;
+pub use loading::long_enough;
+pub use loading::read_card;

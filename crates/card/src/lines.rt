@@ -1,7 +1,7 @@
 // The lines of a card, read in turn.
 use text::Line;
 ghost use mathlib.Core.Path.{_≡_};
-ghost use Rattle.card.specs.Card.{due, dueOf};
+ghost use Rattle.card.specs.Card.{due, due-of};
 
 // What is due in a reading.
 pub enum Due {
@@ -18,7 +18,7 @@ pub struct Reader<'a> {
 
 // The work: the line of this number. Bytes after the last line's end are a further line.
 fn line_due(card: &[u8], line: usize) -> Due
-    ensures { λ r. ⌜ dueOf r ≡ due (now (card .entry)) line ⌝ }
+    ensures { λ r. ⌜ due-of r ≡ due (now (card .entry)) line ⌝ }
 {
     if line == 0 {
         return Due::End;
@@ -38,14 +38,14 @@ pub fn new<'a>(card: &'a [u8], line: usize) -> Reader<'a>
 
 // The line next due.
 pub fn next<'a>(r: Reader<'a>) -> Due
-    ensures { λ d. ⌜ dueOf d ≡ due (now (r .entry .card)) (r .entry .line) ⌝ }
+    ensures { λ d. ⌜ due-of d ≡ due (now (r .entry .card)) (r .entry .line) ⌝ }
 {
     line_due(r.card, r.line)
 }
 
 // The line next due in a reading of this card, for callers that hold the card and the line apart.
 pub fn read_line(card: &[u8], line: usize) -> Due
-    ensures { λ r. ⌜ dueOf r ≡ due (now (card .entry)) line ⌝ }
+    ensures { λ r. ⌜ due-of r ≡ due (now (card .entry)) line ⌝ }
 {
     next(new(card, line))
 }

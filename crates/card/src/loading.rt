@@ -7,10 +7,10 @@ use insertion::insert;
 use insertion::start;
 use text::Line;
 ghost use mathlib.Core.Path.{_≡_};
-ghost use mathlib.Core.List.{_∷_, _++_, []};
-ghost use Prim.Native.Nat.{_≤_, _<_, min};
-ghost use lib.ListN.{length, take, drop};
-ghost use Rattle.text.specs.Lines.{numbersOf};
+ghost use mathlib.Core.List.{_∷_, []};
+ghost use Prim.Native.Nat.{_<_, min};
+ghost use lib.ListN.{length};
+ghost use Rattle.text.specs.Lines.{numbers-of};
 ghost use Rattle.card.specs.Card.{first-line, further-line, load, ReadInto, Short};
 ghost use Rattle.card.specs.Check.{check};
 
@@ -27,7 +27,7 @@ fn point_of(x: u64, y: u64, z: u64) -> Point
 // Line 1: the start of the archive. Answers 15, 4, 1 or 0.
 fn first_line(w: &mut [u64], l: Line) -> u64
     requires { ⌜ Short l ⌝ }
-    ensures { λ r. ⌜ (r ≡ first-line (now (w .entry)) (numbersOf l) .refusal) × (now (w .exit) ≡ first-line (now (w .entry)) (numbersOf l) .words) ⌝ }
+    ensures { λ r. ⌜ (r ≡ first-line (now (w .entry)) (numbers-of l) .refusal) × (now (w .exit) ≡ first-line (now (w .entry)) (numbers-of l) .words) ⌝ }
 {
     let Line::Values {
         first,
@@ -44,7 +44,7 @@ fn first_line(w: &mut [u64], l: Line) -> u64
 // A further line: an insertion. Answers 15, 5 to 8 or 0.
 fn further_line(w: &mut [u64], l: Line) -> u64
     requires { ⌜ Short l ⌝ }
-    ensures { λ r. ⌜ (r ≡ further-line (now (w .entry)) (numbersOf l) .refusal) × (now (w .exit) ≡ further-line (now (w .entry)) (numbersOf l) .words) ⌝ }
+    ensures { λ r. ⌜ (r ≡ further-line (now (w .entry)) (numbers-of l) .refusal) × (now (w .exit) ≡ further-line (now (w .entry)) (numbers-of l) .words) ⌝ }
 {
     let Line::Values {
         first,
@@ -107,18 +107,6 @@ fn least(a: usize, b: usize) -> usize
     if a < b { a } else { b }
 }
 
-// Copies the first n words.
-fn copy(from: &[u64], n: usize, to: &mut [u64])
-    requires { ⌜ (n ≤ length (now from)) × (n ≤ length (now to)) ⌝ }
-    ensures { λ _. ⌜ now (to .exit) ≡ take n (now (from .entry)) ++ drop n (now (to .entry)) ⌝ }
-{
-    let mut i = 0;
-    while i < n {
-        to[i] = from[i];
-        i += 1;
-    }
-}
-
 // Loads the card: the count of trials, or a refusal and its line. Words of the lent slice are written only once the
 // whole card is accepted.
 pub fn load(w: &mut [u64], card: &[u8]) -> Loaded
@@ -131,7 +119,7 @@ pub fn load(w: &mut [u64], card: &[u8]) -> Loaded
         return answer;
     }
     let end = 8 + 5 * words[1] as usize;
-    copy(&words, end, w);
+    slices::copy(&words[..end], w, 0);
     answer
 }
 

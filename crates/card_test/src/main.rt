@@ -220,7 +220,7 @@ fn slices() -> u64
 fn reports_so(words: &[u64], out: &mut [u8], n: usize, refusal: u64, value: u64) -> bool
     requires { ⌜ n ≤ length (now out) ⌝ }
 {
-    let a = card::report(words, &mut out[..n]);
+    let a = reports::report(words, &mut out[..n]);
     if a.refusal != refusal {
         return false;
     }

@@ -8,6 +8,6 @@ fn main() {
     let n = io::read_full(STDIN_FILENO, &mut input);
     // The longest report.
     let mut out = [0u8; 27189];
-    let m = card::print(&input[..n], &mut out);
+    let m = reports::print(&input[..n], &mut out);
     io::write_all(STDOUT_FILENO, &out[..m]);
 }

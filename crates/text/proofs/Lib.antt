@@ -1,8 +1,7 @@
--- Laws of fields, columns, lines and outputs, and of the loops that read and write them.
+-- Laws of fields, of numbers justified and of lines; FieldAt and PutNumber are of the loops that read a field and write a number.
 pub mod Fields
-pub mod Columns
+pub mod Justified
 pub mod Lines
-pub mod Output
-pub mod Reading
-pub mod Writing
+pub mod FieldAt
+pub mod PutNumber
 pub mod Examples

@@ -8,50 +8,51 @@ use native.Mathlib.Nat.{add-zero}
 use native.Mathlib.Decide.{decLe}
 use native.Mathlib.Omega.{arith}
 use lib.Dec.{eqb, lit≤}
-use lib.ListN.{length, take, drop, getD, length-append, length-drop, take-append-drop, List·getD-eq-default}
+use lib.ListN.{length, take, drop, getD, length-drop, take-append-drop, List·getD-eq-default}
 use lib.Seq.{drop-drop, getD-drop, take-at, drop-cons, drop-append-add, getD-append-add, length-take-le}
 use borrow.Author.Tests.{eqb-true, eqb-false, eq-eqb, ne-eqb}
-use Rattle.text.specs.Fields.{choose, fieldFrom}
-use Rattle.text.specs.Lines.{Numbers, newline, four, line, lineFrom}
-use Rattle.text.specs.Columns.{justified, lineOf}
-use Rattle.text.proofs.Columns.{length-justified, field-justified, Shown, justified-field}
+use Rattle.slices.specs.Choices.{pick}
+use Rattle.text.specs.Fields.{field-from}
+use Rattle.text.specs.Lines.{Numbers, newline, four, line, line-from}
+use Rattle.text.specs.Justified.{justified, line-of}
+use Rattle.text.proofs.Justified.{length-justified, field-justified, Shown, justified-field}
 
 -- A field from a place of the bytes behind another place.
-fieldFrom-drop : (at k : ℕ) (bytes : List ℕ) → fieldFrom k (drop at bytes) ≡ fieldFrom (at + k) bytes
-unfolding fieldFrom
-fieldFrom-drop at k bytes = rw (drop-drop k at bytes)
+field-from-drop : (at k : ℕ) (bytes : List ℕ) → field-from k (drop at bytes) ≡ field-from (at + k) bytes
+unfolding field-from
+field-from-drop at k bytes = rw (drop-drop k at bytes)
 
 -- A line whose byte 10 is in its place, and one where it is not.
 line-ended : (bytes : List ℕ) → getD bytes 32 0 ≡ newline
-    → line bytes ≡ four (fieldFrom 0 bytes) (fieldFrom 8 bytes) (fieldFrom 16 bytes) (fieldFrom 24 bytes)
-unfolding line choose
+    → line bytes ≡ four (field-from 0 bytes) (field-from 8 bytes) (field-from 16 bytes) (field-from 24 bytes)
+unfolding line pick
 line-ended bytes e = rw (eq-eqb (getD bytes 32 0) 10 e)
 
 line-open : (bytes : List ℕ) → (getD bytes 32 0 ≡ newline → ⊥) → line bytes ≡ none
-unfolding line choose
+unfolding line pick
 line-open bytes e = rw (ne-eqb (getD bytes 32 0) 10 e)
 
 -- The same at a byte of a card, as the code tests it.
-pub line-short : (card : List ℕ) (at : ℕ) → length card - at ≤ 32 → none ≡ lineFrom at card
-unfolding lineFrom
+pub line-short : (card : List ℕ) (at : ℕ) → length card - at ≤ 32 → none ≡ line-from at card
+unfolding line-from
 line-short card at short =
     let missing : getD (drop at card) 32 0 ≡ 0 = List·getD-eq-default (drop at card) 0 (rw length-drop short) in
     sym (line-open (drop at card) (λ e. omega arith))
 
-pub line-unended : (card : List ℕ) (at : ℕ) → (getD card (at + 32) 0 ≡ newline → ⊥) → none ≡ lineFrom at card
-unfolding lineFrom
+pub line-unended : (card : List ℕ) (at : ℕ) → (getD card (at + 32) 0 ≡ newline → ⊥) → none ≡ line-from at card
+unfolding line-from
 line-unended card at other = sym (line-open (drop at card) (λ e. other (sym (getD-drop at card 32 0) ∙ e)))
 
 pub line-fields : (card : List ℕ) (at : ℕ) {a b c d : Option ℕ} → getD card (at + 32) 0 ≡ newline
-    → a ≡ fieldFrom at card → b ≡ fieldFrom (at + 8) card → c ≡ fieldFrom (at + 16) card → d ≡ fieldFrom (at + 24) card
-    → four a b c d ≡ lineFrom at card
-unfolding lineFrom
+    → a ≡ field-from at card → b ≡ field-from (at + 8) card → c ≡ field-from (at + 16) card → d ≡ field-from (at + 24) card
+    → four a b c d ≡ line-from at card
+unfolding line-from
 line-fields card at end ea eb ec ed =
-    let first : fieldFrom 0 (drop at card) ≡ fieldFrom at card = fieldFrom-drop at 0 card ∙ ap (λ k. fieldFrom k card) (add-zero at) in
+    let first : field-from 0 (drop at card) ≡ field-from at card = field-from-drop at 0 card ∙ ap (λ k. field-from k card) (add-zero at) in
     rw (ea, eb, ec, ed)
     (sym
     (line-ended (drop at card) (getD-drop at card 32 0 ∙ end)
-    ∙ (rw (first, fieldFrom-drop at 8 card, fieldFrom-drop at 16 card, fieldFrom-drop at 24 card))))
+    ∙ (rw (first, field-from-drop at 8 card, field-from-drop at 16 card, field-from-drop at 24 card))))
 
 -- Each of the numbers fits a field of eight bytes.
 pub record Fitting (v : Numbers) : Type 0 where
@@ -62,43 +63,39 @@ pub record Fitting (v : Numbers) : Type 0 where
 
 -- What is behind a column of eight bytes.
 module _ (n : ℕ) (rest : List ℕ) where
-  front-field : n < 10 ^ 8 → fieldFrom 0 (justified 8 n ++ rest) ≡ some n
-  unfolding fieldFrom
+  front-field : n < 10 ^ 8 → field-from 0 (justified 8 n ++ rest) ≡ some n
+  unfolding field-from
   front-field fits = rw (take-at (justified 8 n) rest 8 (length-justified 8 n)) (field-justified 8 n (lit≤ tt) fits)
 
-  behind : (k : ℕ) → drop (8 + k) (justified 8 n ++ rest) ≡ drop k rest
-  behind k = rw (length-justified 8 n) at (drop-append-add (justified 8 n) rest k)
+  behind-column : (k : ℕ) → drop (8 + k) (justified 8 n ++ rest) ≡ drop k rest
+  behind-column k = rw (length-justified 8 n) at (drop-append-add (justified 8 n) rest k)
 
-  behind-field : (k : ℕ) → fieldFrom (8 + k) (justified 8 n ++ rest) ≡ fieldFrom k rest
-  unfolding fieldFrom
-  behind-field k = rw (behind k)
+  behind-field : (k : ℕ) → field-from (8 + k) (justified 8 n ++ rest) ≡ field-from k rest
+  unfolding field-from
+  behind-field k = rw (behind-column k)
 
   behind-byte : (k : ℕ) → getD (justified 8 n ++ rest) (8 + k) 0 ≡ getD rest k 0
   behind-byte k = rw (length-justified 8 n) at (getD-append-add (justified 8 n) rest k 0)
 
-lineOf-append : (v : Numbers) (rest : List ℕ)
-    → lineOf v ++ rest
+line-of-append : (v : Numbers) (rest : List ℕ)
+    → line-of v ++ rest
     ≡ justified 8 (v .first) ++ (justified 8 (v .second) ++ (justified 8 (v .third) ++ (justified 8 (v .fourth) ++ (newline ∷ rest))))
-unfolding lineOf
-lineOf-append v rest = simp append-assoc
-
-pub length-lineOf : (v : Numbers) → length (lineOf v) ≡ 33
-unfolding lineOf
-length-lineOf v = simp (length-append, length-justified)
+unfolding line-of
+line-of-append v rest = simp append-assoc
 
 -- A line of four columns reads back, whatever is behind it.
-pub line-lineOf : (v : Numbers) (rest : List ℕ) → Fitting v → line (lineOf v ++ rest) ≡ some v
+pub line-line-of : (v : Numbers) (rest : List ℕ) → Fitting v → line (line-of v ++ rest) ≡ some v
 unfolding four
-line-lineOf v rest f =
+line-line-of v rest f =
     let d : List ℕ = justified 8 (v .fourth) ++ (newline ∷ rest) in
     let c : List ℕ = justified 8 (v .third) ++ d in
     let b : List ℕ = justified 8 (v .second) ++ c in
     let a : List ℕ = justified 8 (v .first) ++ b in
-    let first : fieldFrom 0 a ≡ some (v .first) = front-field (v .first) b (f .first) in
-    let second : fieldFrom 8 a ≡ some (v .second) = behind-field (v .first) b 0 ∙ front-field (v .second) c (f .second) in
-    let third : fieldFrom 16 a ≡ some (v .third) =
+    let first : field-from 0 a ≡ some (v .first) = front-field (v .first) b (f .first) in
+    let second : field-from 8 a ≡ some (v .second) = behind-field (v .first) b 0 ∙ front-field (v .second) c (f .second) in
+    let third : field-from 16 a ≡ some (v .third) =
     behind-field (v .first) b 8 ∙ behind-field (v .second) c 0 ∙ front-field (v .third) d (f .third) in
-    let fourth : fieldFrom 24 a ≡ some (v .fourth) =
+    let fourth : field-from 24 a ≡ some (v .fourth) =
     behind-field (v .first) b 16
     ∙ behind-field (v .second) c 8
     ∙ behind-field (v .third) d 0
@@ -108,14 +105,14 @@ line-lineOf v rest f =
     ∙ behind-byte (v .second) c 16
     ∙ behind-byte (v .third) d 8
     ∙ behind-byte (v .fourth) (newline ∷ rest) 0 in
-    rw (lineOf-append v rest, line-ended a end, first, second, third, fourth)
+    rw (line-of-append v rest, line-ended a end, first, second, third, fourth)
 
 -- The other way: what a line of the form consists of.
 record Parts (bytes : List ℕ) (v : Numbers) : Type 0 where
-  first : fieldFrom 0 bytes ≡ some (v .first)
-  second : fieldFrom 8 bytes ≡ some (v .second)
-  third : fieldFrom 16 bytes ≡ some (v .third)
-  fourth : fieldFrom 24 bytes ≡ some (v .fourth)
+  first : field-from 0 bytes ≡ some (v .first)
+  second : field-from 8 bytes ≡ some (v .second)
+  third : field-from 16 bytes ≡ some (v .third)
+  fourth : field-from 24 bytes ≡ some (v .fourth)
   end : getD bytes 32 0 ≡ newline
 
 four-parts : (a b c d : Option ℕ) (v : Numbers) → four a b c d ≡ some v
@@ -135,7 +132,7 @@ line-parts bytes v e = go (eqb (getD bytes 32 0) newline) refl
     go : (t : Bool) → eqb (getD bytes 32 0) newline ≡ t → Parts bytes v
     go true e₁ =
         let end : getD bytes 32 0 ≡ newline = eqb-true (getD bytes 32 0) newline e₁ in
-        let parts = four-parts (fieldFrom 0 bytes) (fieldFrom 8 bytes) (fieldFrom 16 bytes) (fieldFrom 24 bytes) v (sym (line-ended bytes end) ∙ e) in
+        let parts = four-parts (field-from 0 bytes) (field-from 8 bytes) (field-from 16 bytes) (field-from 24 bytes) v (sym (line-ended bytes end) ∙ e) in
         record { first = parts .0; second = parts .1; third = parts .2; fourth = parts .3; end = end }
     go false e₁ =
         absurd (let z : _≡_ {A = ℕ} 0 1 = cc (line-open bytes (eqb-false (getD bytes 32 0) newline e₁)) in omega arith)
@@ -154,8 +151,8 @@ record Begun (bytes : List ℕ) (k n : ℕ) : Type 0 where
   column : drop k bytes ≡ justified 8 n ++ drop (k + 8) bytes
   fits : n < 10 ^ 8
 
-begun : (bytes : List ℕ) (k n : ℕ) → k + 8 ≤ length bytes → fieldFrom k bytes ≡ some n → Begun bytes k n
-unfolding fieldFrom
+begun : (bytes : List ℕ) (k n : ℕ) → k + 8 ≤ length bytes → field-from k bytes ≡ some n → Begun bytes k n
+unfolding field-from
 begun bytes k n long e =
     let enough : 8 ≤ length (drop k bytes) = rw length-drop (omega arith) in
     let eight : length (take 8 (drop k bytes)) ≡ 8 = length-take-le 8 (drop k bytes) enough in
@@ -167,14 +164,14 @@ begun bytes k n long e =
     }
 
 -- A line of the form, at a byte of a card: it is there whole, it is the line of its values, and each of them fits.
-pub record Lined (card : List ℕ) (at : ℕ) (v : Numbers) : Type 0 where
+pub record WholeLine (card : List ℕ) (at : ℕ) (v : Numbers) : Type 0 where
   pub long : at + 33 ≤ length card
-  pub start : drop at card ≡ lineOf v ++ drop (at + 33) card
+  pub start : drop at card ≡ line-of v ++ drop (at + 33) card
   pub fitting : Fitting v
 
-pub lineOf-line : (card : List ℕ) (at : ℕ) (v : Numbers) → lineFrom at card ≡ some v → Lined card at v
-unfolding lineFrom
-lineOf-line card at v e =
+pub line-of-line : (card : List ℕ) (at : ℕ) (v : Numbers) → line-from at card ≡ some v → WholeLine card at v
+unfolding line-from
+line-of-line card at v e =
     let bytes : List ℕ = drop at card in
     let p : Parts bytes v = line-parts bytes v e in
     let long : 33 ≤ length bytes = ended-long bytes (p .end) in
@@ -184,10 +181,10 @@ lineOf-line card at v e =
     let d : Begun bytes 24 (v .fourth) = begun bytes 24 (v .fourth) (omega arith) (p .fourth) in
     let last : drop 32 bytes ≡ newline ∷ drop 33 bytes =
     drop-cons bytes 32 0 (omega arith) ∙ ap (λ x. x ∷ drop 33 bytes) (p .end) in
-    let whole : bytes ≡ lineOf v ++ drop 33 bytes =
-    a .column ∙ (rw (lineOf-append v (drop 33 bytes), b .column, c .column, d .column, last)) in
+    let whole : bytes ≡ line-of v ++ drop 33 bytes =
+    a .column ∙ (rw (line-of-append v (drop 33 bytes), b .column, c .column, d .column, last)) in
     record {
       long = omega (arith, length-drop at card);
-      start = whole ∙ ap (λ rest. lineOf v ++ rest) (drop-drop 33 at card);
+      start = whole ∙ ap (λ rest. line-of v ++ rest) (drop-drop 33 at card);
       fitting = record { first = a .fits; second = b .fits; third = c .fits; fourth = d .fits };
     }

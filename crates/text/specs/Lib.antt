@@ -1,4 +1,4 @@
--- Decimal numbers in bytes: document 01, "Card and report". Read Fields first, then Lines, then Columns.
+-- Decimal numbers in bytes: document 01, "Card and report". Read Fields first, then Lines, then Justified.
 pub mod Fields
 pub mod Lines
-pub mod Columns
+pub mod Justified

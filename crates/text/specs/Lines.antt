@@ -5,7 +5,8 @@ use mathlib.Core.List.{List}
 use mathlib.Core.Option.{Option, none, some}
 use lib.Dec.{eqb}
 use lib.ListN.{drop, getD}
-use Rattle.text.specs.Fields.{choose, fieldFrom}
+use Rattle.slices.specs.Choices.{pick}
+use Rattle.text.specs.Fields.{field-from}
 use Rattle.text.specs.declared.Line.{Line}
 use Rattle.text.specs.declared.Line.the-variants.{Values, Malformed}
 
@@ -32,15 +33,15 @@ four (some a) (some b) (some c) (some d) = some (record { first = a; second = b;
 -- are fewer than 33 bytes, byte 10 is missing and the line is not of the form.
 unfoldable pub line : List ℕ → Option Numbers
 line bytes =
-    choose (eqb (getD bytes 32 0) newline)
-    (four (fieldFrom 0 bytes) (fieldFrom 8 bytes) (fieldFrom 16 bytes) (fieldFrom 24 bytes))
+    pick (eqb (getD bytes 32 0) newline)
+    (four (field-from 0 bytes) (field-from 8 bytes) (field-from 16 bytes) (field-from 24 bytes))
     none
 
 -- The line that starts at a byte of a card.
-unfoldable pub lineFrom : ℕ → List ℕ → Option Numbers
-lineFrom at card = line (drop at card)
+unfoldable pub line-from : ℕ → List ℕ → Option Numbers
+line-from at card = line (drop at card)
 
 -- What the reading of a line answers: its four values, or that it is not of the form (on a card, row 15).
-abbrev pub numbersOf : Line → Option Numbers
-numbersOf (Values a b c d) = some (record { first = a; second = b; third = c; fourth = d })
-numbersOf Malformed = none
+abbrev pub numbers-of : Line → Option Numbers
+numbers-of (Values a b c d) = some (record { first = a; second = b; third = c; fourth = d })
+numbers-of Malformed = none

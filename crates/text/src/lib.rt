@@ -4,9 +4,11 @@ ghost use Prim.Native.Nat.{_+_, _%_, _≤_};
 ghost use lib.Dec.{eqb};
 ghost use lib.ListN.{length};
 ghost use lib.Seq.{slice};
-ghost use Rattle.text.specs.Fields.{space, digit, isDigit, choose, decimal, number, fieldFrom, valueOf, Part};
-ghost use Rattle.text.specs.Lines.{four, lineFrom, numbersOf};
-ghost use Rattle.text.specs.Columns.{justified, put, Column};
+ghost use Rattle.slices.specs.Choices.{pick};
+ghost use Rattle.slices.specs.Put.{put};
+ghost use Rattle.text.specs.Fields.{space, digit, is-digit, decimal, number, field-from, value-of, Part};
+ghost use Rattle.text.specs.Lines.{four, line-from, numbers-of};
+ghost use Rattle.text.specs.Justified.{justified, ColumnRoom};
 
 // What the reading of a field answers.
 pub enum Field {
@@ -28,7 +30,7 @@ pub enum Line {
 }
 
 fn is_digit(b: u8) -> bool
-    ensures { λ r. ⌜ r ≡ isDigit b ⌝ }
+    ensures { λ r. ⌜ r ≡ is-digit b ⌝ }
 {
     b'0' <= b && b <= b'9'
 }
@@ -43,7 +45,7 @@ fn wide(b: u8) -> u64
 // The value of the digits from `at` up to `end`.
 fn decimal(s: &[u8], at: usize, end: usize) -> Field
     requires { ⌜ Part (now s) at end ⌝ }
-    ensures { λ r. ⌜ valueOf r ≡ decimal 0 (slice at end (now (s .entry))) ⌝ }
+    ensures { λ r. ⌜ value-of r ≡ decimal 0 (slice at end (now (s .entry))) ⌝ }
 {
     let mut v: u64 = 0;
     let mut i = at;
@@ -62,7 +64,7 @@ fn decimal(s: &[u8], at: usize, end: usize) -> Field
 // The value of the number from `at` up to `end`.
 fn number(s: &[u8], at: usize, end: usize) -> Field
     requires { ⌜ Part (now s) at end ⌝ }
-    ensures { λ r. ⌜ valueOf r ≡ number (slice at end (now (s .entry))) ⌝ }
+    ensures { λ r. ⌜ value-of r ≡ number (slice at end (now (s .entry))) ⌝ }
 {
     if at + 1 == end {
         return decimal(s, at, end);
@@ -76,7 +78,7 @@ fn number(s: &[u8], at: usize, end: usize) -> Field
 // The field of eight bytes that starts at byte `at`.
 pub fn field_at(s: &[u8], at: usize) -> Field
     requires { ⌜ at + 8 ≤ length (now s) ⌝ }
-    ensures { λ r. ⌜ valueOf r ≡ fieldFrom at (now (s .entry)) ⌝ }
+    ensures { λ r. ⌜ value-of r ≡ field-from at (now (s .entry)) ⌝ }
 {
     let end = at + 8;
     let mut i = at;
@@ -92,7 +94,7 @@ pub fn field_at(s: &[u8], at: usize) -> Field
 
 // The line of four fields that have been read.
 fn four(a: Field, b: Field, c: Field, d: Field) -> Line
-    ensures { λ r. ⌜ numbersOf r ≡ four (valueOf a) (valueOf b) (valueOf c) (valueOf d) ⌝ }
+    ensures { λ r. ⌜ numbers-of r ≡ four (value-of a) (value-of b) (value-of c) (value-of d) ⌝ }
 {
     let Field::Value(first) = a else {
         return Line::Malformed;
@@ -116,7 +118,7 @@ fn four(a: Field, b: Field, c: Field, d: Field) -> Line
 
 // The line that starts at byte `at`; a rest of fewer than 33 bytes is not of the form.
 pub fn line_at(s: &[u8], at: usize) -> Line
-    ensures { λ r. ⌜ numbersOf r ≡ lineFrom at (now (s .entry)) ⌝ }
+    ensures { λ r. ⌜ numbers-of r ≡ line-from at (now (s .entry)) ⌝ }
 {
     if s.len() < 33 {
         return Line::Malformed;
@@ -144,14 +146,14 @@ fn last_digit(n: u64) -> u8
 
 // The byte in front of others: a digit of what is left of the number, or a space where nothing is.
 fn digit_or_space(rest: u64) -> u8
-    ensures { λ r. ⌜ r ≡ choose (eqb rest 0) space (digit (rest % 10)) ⌝ }
+    ensures { λ r. ⌜ r ≡ pick (eqb rest 0) space (digit (rest % 10)) ⌝ }
 {
     if rest == 0 { b' ' } else { last_digit(rest) }
 }
 
 // Writes n right-justified behind spaces into the `width` bytes from `at` on, and no other byte.
 pub fn put_number(out: &mut [u8], at: usize, width: usize, n: u64)
-    requires { ⌜ Column (now out) at width ⌝ }
+    requires { ⌜ ColumnRoom (now out) at width ⌝ }
     ensures { λ _. ⌜ now (out .exit) ≡ put (now (out .entry)) at (justified width n) ⌝ }
 {
     let mut left = width - 1;

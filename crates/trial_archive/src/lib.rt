@@ -9,7 +9,7 @@ ghost use mathlib.Core.List.{_∷_, []};
 ghost use Rattle.calls.specs.Lent.{start, insert, remove, least, reduce, joint, gain-answer, share, audit, trial-of, shape-of, Reduced};
 ghost use Rattle.card.specs.Card.{load};
 ghost use Rattle.card.specs.Check.{check};
-ghost use Rattle.card.specs.Report.{report, reported};
+ghost use Rattle.reports.specs.Report.{report, reported};
 
 // A point from its coordinates, in the order of the axes.
 fn point(x: u32, y: u32, z: u32) -> Point
@@ -99,5 +99,5 @@ pub extern "C" fn ta_card_load(words: &mut [u64], card: &[u8]) -> Loaded
 pub extern "C" fn ta_report(words: &[u64], out: &mut [u8]) -> Answer
     ensures { λ r. ⌜ (r ≡ report (now (words .entry)) (now (out .entry))) × (now (out .exit) ≡ reported (now (words .entry)) (now (out .entry))) ⌝ }
 {
-    card::report(words, out)
+    reports::report(words, out)
 }

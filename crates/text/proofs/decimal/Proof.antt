@@ -1,21 +1,21 @@
--- `text::decimal` meets its contract: each turn takes one digit (proofs/Reading, Counted).
+-- `text::decimal` meets its contract: each turn takes one digit (proofs/FieldAt, Valued).
 use Prim.Native.Nat.{_-_}
 use mathlib.Core.Path.{sym, _∙_}
 use native.Mathlib.Omega.{arith}
 use borrow.Author.Needs.{needs}
 use Rattle.text.proofs.Fields.{digit-low, digit-high}
-use Rattle.text.proofs.Reading.{Counted, counted-none, counted-small, counted-more, counted-stop, counted-end}
+use Rattle.text.proofs.FieldAt.{Valued, valued-none, valued-small, valued-more, valued-stop, valued-end}
 use Rattle.text.proofs.decimal.Statement.{statement}
 use Rattle.text.proofs.decimal.Tie as tie
 
 abbrev Inv-loop : tie.InvT-loop
-Inv-loop s at end v₀ i₀ v i = Counted s at end v i
+Inv-loop s at end v₀ i₀ v i = Valued s at end v i
 
 abbrev μ-loop : tie.MeasureT-loop
 μ-loop s at end v₀ i₀ v i = end - i
 
 loop-holds : tie.Need-loop-holds Inv-loop μ-loop
-loop-holds c = counted-none _ _ _ (c .before .pre)
+loop-holds c = valued-none _ _ _ (c .before .pre)
 
 shared-slice-read-b : tie.Need-shared-slice-read-b Inv-loop μ-loop
 shared-slice-read-b c = omega arith
@@ -27,7 +27,7 @@ mul-v : tie.Need-mul-v Inv-loop μ-loop
 mul-v c =
     omega (
       arith,
-      counted-small (c .before .before .before .before .before .before .pre) (c .before .before .before .before .loop .inv),
+      valued-small (c .before .before .before .before .before .before .pre) (c .before .before .before .before .loop .inv),
     )
 
 sub-wide : tie.Need-sub-wide Inv-loop μ-loop
@@ -40,7 +40,7 @@ add-v : tie.Need-add-v Inv-loop μ-loop
 add-v c =
     omega (
       arith,
-      counted-small (c .before .before .before .before .before .before .before .pre) (c .before .before .before .before .before .loop .inv),
+      valued-small (c .before .before .before .before .before .before .before .pre) (c .before .before .before .before .before .loop .inv),
       digit-high _ (sym (c .before .before .is-digit .ensures) ∙ c .before .if1 .taken),
       c .wide .ensures,
     )
@@ -53,19 +53,19 @@ loop-less c = omega arith
 
 loop-again : tie.Need-loop-again Inv-loop μ-loop
 loop-again c =
-    counted-more (c .before .before .before .before .before .before .before .pre) (c .before .before .before .before .before .loop .inv)
+    valued-more (c .before .before .before .before .before .before .before .pre) (c .before .before .before .before .before .loop .inv)
     (c .before .before .before .before .loop-test .taken)
     (sym (c .before .before .is-digit .ensures) ∙ c .before .if1 .taken)
     (c .wide .ensures)
 
 returns : tie.Need-returns Inv-loop μ-loop
 returns c =
-    counted-stop (c .before .before .before .before .before .before .pre) (c .before .before .before .before .loop .inv)
+    valued-stop (c .before .before .before .before .before .before .pre) (c .before .before .before .before .loop .inv)
     (c .before .before .before .loop-test .taken)
     (sym (c .before .is-digit .ensures) ∙ c .if1 .left)
 
 returns-2 : tie.Need-returns-2 Inv-loop μ-loop
-returns-2 c = counted-end (c .before .before .before .pre) (c .before .loop .inv) (c .loop-test .left)
+returns-2 c = valued-end (c .before .before .before .pre) (c .before .loop .inv) (c .loop-test .left)
 
 pub decimal-spec : {M : Type 1} → statement M
 decimal-spec =

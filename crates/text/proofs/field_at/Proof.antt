@@ -1,8 +1,8 @@
--- `text::field_at` meets its contract: each turn skips one space (proofs/Reading, Skipped).
+-- `text::field_at` meets its contract: each turn skips one space (proofs/FieldAt, Skipped).
 use Prim.Native.Nat.{_-_}
 use mathlib.Core.Path.{_∙_}
 use native.Mathlib.Omega.{arith}
-use Rattle.text.proofs.Reading.{Skipped, skipped-none, skipped-part, skipped-more, skipped-stop, skipped-end}
+use Rattle.text.proofs.FieldAt.{Skipped, skipped-none, skipped-part, skipped-more, skipped-stop, skipped-end}
 use Rattle.text.proofs.field_at.Statement.{statement}
 use Rattle.text.proofs.field_at.Tie as tie
 

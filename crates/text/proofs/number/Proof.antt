@@ -1,7 +1,7 @@
--- `text::number` meets its contract, by the number of its bytes and the first of them (proofs/Reading).
+-- `text::number` meets its contract, by the number of its bytes and the first of them (proofs/FieldAt).
 use mathlib.Core.Path.{_∙_}
 use borrow.Author.Needs.{needs}
-use Rattle.text.proofs.Reading.{number-one, number-zero, number-more}
+use Rattle.text.proofs.FieldAt.{number-one, number-zero, number-more}
 use Rattle.text.proofs.number.Statement.{statement}
 use Rattle.text.proofs.number.Tie as tie
 

@@ -1,9 +1,9 @@
--- `text::put_number` meets its contract: each turn writes the byte in front (proofs/Writing, Writing).
+-- `text::put_number` meets its contract: each turn writes the byte in front (proofs/PutNumber, Writing).
 use mathlib.Core.Path.{_∙_}
 use native.Mathlib.Omega.{arith}
 use lib.ListN.{length-set}
 use borrow.Author.Needs.{needs}
-use Rattle.text.proofs.Writing.{Writing, writing-none, writing-more, writing-end}
+use Rattle.text.proofs.PutNumber.{Writing, writing-none, writing-few, writing-more, writing-end}
 use Rattle.text.proofs.put_number.Statement.{statement}
 use Rattle.text.proofs.put_number.Tie as tie
 
@@ -35,7 +35,7 @@ digit-or-space-requires : tie.Need-digit-or-space-requires Inv-loop μ-loop
 digit-or-space-requires c κs = search needs
 
 add-out-2 : tie.Need-add-out-2 Inv-loop μ-loop
-add-out-2 c = omega arith
+add-out-2 c = omega (arith, writing-few (c .before .before .loop .inv))
 
 slice-write-out-2 : tie.Need-slice-write-out-2 Inv-loop μ-loop
 slice-write-out-2 c = omega arith
@@ -47,7 +47,7 @@ loop-again : tie.Need-loop-again Inv-loop μ-loop
 loop-again c = writing-more (c .before .before .loop .inv) (omega arith) (c .digit-or-space .ensures)
 
 same-length : tie.Need-same-length Inv-loop μ-loop
-same-length c = c .before .loop .inv .same ∙ simp length-set
+same-length c = c .before .loop .inv .filled .long ∙ simp length-set
 
 returns : tie.Need-returns Inv-loop μ-loop
 returns c =

@@ -1,6 +1,6 @@
 -- `card::lines::line_due` meets its contract: whether a line is due, and the reading of it.
 use borrow.Author.Needs.{needs}
-use Rattle.card.proofs.Cards.{due-before, due-next, due-behind}
+use Rattle.card.proofs.lines.LineDue.{due-before, due-next, due-behind}
 use Rattle.card.proofs.lines.line_due.Statement.{statement}
 use Rattle.card.proofs.lines.line_due.Tie as tie
 

@@ -42,7 +42,7 @@ use denote.Triple.Table.{entered, cited}
 use denote.Triple.Walked.{says, Stays, stay-none, walkOf, goes-none, Walks, ends-at, walked, walk-meets}
 use denote.Exit.{yes}
 use denote.Triple.Clauses.{ensured, lasts}
-use Rattle.card.specs.Card.{due, dueOf}
+use Rattle.card.specs.Card.{due, due-of}
 use Rattle.card.specs.declared.lines.Reader.{Reader}
 use Rattle.card.specs.declared.lines.Due.{Due}
 use Rattle.card.proofs.lines.Reader as T
@@ -80,7 +80,7 @@ module _ {M : Type 1} (𝓤 : URA M) (H : Heap 𝓤) (A : Atoms 𝓤) (W : Given
 
   -- what is known of the result r
   abbrev Found : Due → Type 0
-  Found r = dueOf r ≡ due (now (d .card)) (d .line)
+  Found r = due-of r ≡ due (now (d .card)) (d .line)
 
   abbrev Post : Val → SProp 𝓤
   Post = walkOf 𝓤 H A next.ended stayed (next.clauses 𝓤 H A mem run) .post (((κ, tt), (q, tt), tt, (d, tt), (mach ∷ [], tt)), tt)

@@ -2,7 +2,7 @@
 use mathlib.Core.Path.{sym}
 use native.Mathlib.Omega.{arith}
 use borrow.Author.Needs.{needs}
-use Rattle.card.proofs.Theorems.{small-answer, checked}
+use Rattle.card.proofs.loading.Checked.{small-answer, checked}
 use Rattle.card.proofs.loading.check.Statement.{statement}
 use Rattle.card.proofs.loading.check.Tie as tie
 

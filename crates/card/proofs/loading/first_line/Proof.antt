@@ -2,7 +2,7 @@
 use mathlib.Core.Path.{refl}
 use borrow.Author.Needs.{needs}
 use Rattle.card.specs.Card.{malformed}
-use Rattle.card.proofs.LineByLine.{first-missing, first-called, same-outcome}
+use Rattle.card.proofs.loading.ReadCard.{first-missing, first-called, same-outcome}
 use Rattle.card.proofs.loading.first_line.Statement.{statement}
 use Rattle.card.proofs.loading.first_line.Tie as tie
 

@@ -8,7 +8,7 @@ use lib.ListN.{length, take, drop, length-append, length-take, length-drop}
 use borrow.Author.Needs.{needs}
 use denote.Ref.{now}
 use Rattle.card.specs.Card.{load}
-use Rattle.card.proofs.Copying.{Copied, own-answer, own-refused, own-copied}
+use Rattle.card.proofs.loading.Copied.{Copied, copied-long, copied-room, own-answer, own-refused, own-copied}
 use Rattle.card.proofs.loading.load.Statement.{statement}
 use Rattle.card.proofs.loading.load.Tie as tie
 
@@ -58,11 +58,14 @@ mul-end c = omega (arith, copied c)
 add-end : tie.Need-add-end
 add-end c = omega (arith, copied c)
 
+array-share-prefix-words : tie.Need-array-share-prefix-words
+array-share-prefix-words c = omega (arith, copied c, whole c)
+
 slice-aggregate-copy : tie.Need-slice-aggregate-copy
-slice-aggregate-copy c = whole (c .before)
+slice-aggregate-copy c = copied-long (copied (c .before)) (whole (c .before))
 
 copy-requires : tie.Need-copy-requires
-copy-requires c κs = (omega (arith, copied (c .before .before), whole (c .before .before)), copied (c .before .before) .room)
+copy-requires c κs = copied-room (copied (c .before .before)) (whole (c .before .before))
 
 same-length : tie.Need-same-length
 same-length c = search needs
@@ -83,6 +86,7 @@ load-spec =
     array-read-end
     mul-end
     add-end
+    array-share-prefix-words
     slice-aggregate-copy
     copy-requires
     same-length

@@ -6,9 +6,9 @@ use native.Mathlib.Omega.{arith}
 use lib.ListN.{drop}
 use borrow.Author.Needs.{needs}
 use denote.Ref.{now}
-use Rattle.text.specs.Lines.{numbersOf}
-use Rattle.card.specs.Card.{line-count, lines, dueOf, further, load}
-use Rattle.card.proofs.LineByLine.{Inside, inside, line-short, card-missing, first-refused, first-done, Reading, reading-none, reading-more, reading-stop, reading-end, few-lines}
+use Rattle.text.specs.Lines.{numbers-of}
+use Rattle.card.specs.Card.{line-count, lines, due-of, further, load}
+use Rattle.card.proofs.loading.ReadCard.{Inside, inside, read-short, card-missing, first-refused, first-done, Reading, reading-none, reading-more, reading-stop, reading-end, few-lines}
 use Rattle.card.proofs.loading.read_card.Statement.{statement}
 use Rattle.card.proofs.loading.read_card.Tie as tie
 
@@ -18,16 +18,16 @@ Inv-loop w₀ card started line₀ w line = Reading card w₀ line w
 abbrev μ-loop : tie.MeasureT-loop
 μ-loop w₀ card started line₀ w line = line-count card + 1 - line
 
-first-inside : (c : tie.After-first Inv-loop μ-loop) → Inside (now (c .before .before .before .before .before .args .card)) 1 (numbersOf (c .first .given .0 .0))
-first-inside c = inside _ (sym (ap dueOf (c .first .given .1)) ∙ c .before .before .read-line .ensures)
+first-inside : (c : tie.After-first Inv-loop μ-loop) → Inside (now (c .before .before .before .before .before .args .card)) 1 (numbers-of (c .first .given .0 .0))
+first-inside c = inside _ (sym (ap due-of (c .first .given .1)) ∙ c .before .before .read-line .ensures)
 
 begun : (c : tie.Else1 Inv-loop μ-loop)
     → load (now (c .before .before .before .before .before .before .before .before .before .before .before .args .w)) (now (c .before .before .before .before .before .before .before .before .before .before .before .args .card))
     ≡ further (now (c .before .before .before .before .before .before .before .before .before .before .before .args .w)) (c .before .before .before .first-line .last .0) 0 (lines (drop 33 (now (c .before .before .before .before .before .before .before .before .before .before .before .args .card))))
 begun c = first-done _ _ (first-inside (c .before .before .before .before .before .before)) (c .before .before .before .first-line .ensures .0) (c .if1 .left) (c .before .before .before .first-line .ensures .1)
 
-line-inside : (c : tie.After-l Inv-loop μ-loop) → Inside (now (c .before .before .before .before .before .before .before .before .before .before .before .before .before .before .before .args .card)) (c .before .before .before .loop .line) (numbersOf (c .l .given .0 .0))
-line-inside c = inside _ (sym (ap dueOf (c .l .given .1)) ∙ c .before .before .read-line2 .ensures)
+line-inside : (c : tie.After-l Inv-loop μ-loop) → Inside (now (c .before .before .before .before .before .before .before .before .before .before .before .before .before .before .before .args .card)) (c .before .before .before .loop .line) (numbers-of (c .l .given .0 .0))
+line-inside c = inside _ (sym (ap due-of (c .l .given .1)) ∙ c .before .before .read-line2 .ensures)
 
 read-line-requires : tie.Need-read-line-requires Inv-loop μ-loop
 read-line-requires c κs = search needs
@@ -42,10 +42,10 @@ refused-requires : tie.Need-refused-requires Inv-loop μ-loop
 refused-requires c κs = search needs
 
 returns : tie.Need-returns Inv-loop μ-loop
-returns c = card-missing _ _ (sym (ap dueOf (c .before .enum-told .given .1)) ∙ c .before .before .before .read-line .ensures) (c .refused .ensures)
+returns c = card-missing _ _ (sym (ap due-of (c .before .enum-told .given .1)) ∙ c .before .before .before .read-line .ensures) (c .refused .ensures)
 
 first-line-requires : tie.Need-first-line-requires Inv-loop μ-loop
-first-line-requires c κs = line-short (c .before .before .first .given .0 .0) (first-inside (c .before .before))
+first-line-requires c κs = read-short (c .before .before .first .given .0 .0) (first-inside (c .before .before))
 
 refused-requires-2 : tie.Need-refused-requires-2 Inv-loop μ-loop
 refused-requires-2 c κs = search needs
@@ -66,7 +66,7 @@ enum-known-l : tie.Need-enum-known-l Inv-loop μ-loop
 enum-known-l c = search needs
 
 further-line-requires : tie.Need-further-line-requires Inv-loop μ-loop
-further-line-requires c κs = line-short (c .before .before .l .given .0 .0) (line-inside (c .before .before))
+further-line-requires c κs = read-short (c .before .before .l .given .0 .0) (line-inside (c .before .before))
 
 refused-requires-3 : tie.Need-refused-requires-3 Inv-loop μ-loop
 refused-requires-3 c κs = search needs
@@ -96,7 +96,7 @@ same-length-3 : tie.Need-same-length-3 Inv-loop μ-loop
 same-length-3 c = search needs
 
 returns-4 : tie.Need-returns-4 Inv-loop μ-loop
-returns-4 c = reading-end (c .before .before .before .loop .inv) _ (begun (c .before .before .before .before)) (sym (ap dueOf (c .enum-told2 .given .1)) ∙ c .before .before .read-line2 .ensures)
+returns-4 c = reading-end (c .before .before .before .loop .inv) _ (begun (c .before .before .before .before)) (sym (ap due-of (c .enum-told2 .given .1)) ∙ c .before .before .read-line2 .ensures)
 
 pub read-card-spec : {M : Type 1} → statement M
 read-card-spec =

@@ -1,0 +1,2 @@
+-- What the proof of `line_due` uses.
+mod LineDue

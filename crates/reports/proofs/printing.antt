@@ -1,0 +1,2 @@
+-- What the proofs of `print` and `put_refusal` use.
+mod Printouts

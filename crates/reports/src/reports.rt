@@ -1,0 +1,61 @@
+// The report call.
+use calls::Answer;
+use words::row_at;
+use words::shape_of;
+ghost use mathlib.Core.Path.{_≡_};
+ghost use Prim.Native.Nat.{_+_, _≤_};
+ghost use lib.ListN.{length};
+ghost use Rattle.slices.specs.Put.{put};
+ghost use Rattle.words.specs.Layout.{read};
+ghost use Rattle.reports.specs.Report.{report-line, record-lines, report, reported, ReportRoom};
+
+// Writes one line of the report at byte `at`: four numbers in eight bytes, one in twenty, and byte 10.
+fn put_line(out: &mut [u8], at: usize, a: u64, b: u64, c: u64, d: u64, e: u64)
+    requires { ⌜ at + 53 ≤ length (now out) ⌝ }
+    ensures { λ _. ⌜ now (out .exit) ≡ put (now (out .entry)) at (report-line a b c d e) ⌝ }
+{
+    text::put_number(out, at, 8, a);
+    text::put_number(out, at + 8, 8, b);
+    text::put_number(out, at + 16, 8, c);
+    text::put_number(out, at + 24, 8, d);
+    text::put_number(out, at + 32, 20, e);
+    out[at + 52] = b'\n';
+}
+
+// Writes the lines of the records behind the first line.
+fn put_records(w: &[u64], out: &mut [u8])
+    requires { ⌜ ReportRoom (now w) (now out) ⌝ }
+    ensures { λ _. ⌜ now (out .exit) ≡ put (now (out .entry)) 53 (record-lines (read (now (w .entry)) .rows)) ⌝ }
+{
+    let n = w[0] as usize;
+    let mut i: usize = 0;
+    while i < n {
+        let r = row_at(w, i);
+        put_line(out, 53 * (i + 1), r.number, r.x, r.y, r.z, r.kept);
+        i += 1;
+    }
+}
+
+// The report of the archive: rows 1 to 3, then 16; else its length, with the report at the front of the output.
+pub fn report(w: &[u64], out: &mut [u8]) -> Answer
+    ensures { λ r. ⌜ (r ≡ report (now (w .entry)) (now (out .entry))) × (now (out .exit) ≡ reported (now (w .entry)) (now (out .entry))) ⌝ }
+{
+    let refusal = words::refusal(w);
+    if refusal != 0 {
+        return Answer { refusal, value: 0 };
+    }
+    let bytes = 53 * (w[0] + 1);
+    if (out.len() as u64) < bytes {
+        return Answer {
+            refusal: 16,
+            value: 0,
+        };
+    }
+    let s = shape_of(w);
+    put_line(out, 0, w[0], s.rx, s.ry, s.rz, w[5]);
+    put_records(w, out);
+    Answer {
+        refusal: 0,
+        value: bytes,
+    }
+}
