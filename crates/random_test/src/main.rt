@@ -93,10 +93,10 @@ fn agrees(book: &[u32], reference: Point, w: &[u64], step: usize) -> bool {
     right == 16 && at(w, 5) == total
 }
 
-// A coordinate up to the reference, often the reference itself.
+// A coordinate up to the reference, often half of it.
 fn coordinate(set: u64, axis: u64, i: u64, reference: u32) -> u32 {
     let x = (noise(set, axis, i) % 8) as u32;
-    if x < reference { x } else { reference }
+    if x <= reference { x } else { reference / 2 }
 }
 
 fn somewhere(reference: Point, set: u64, i: u64) -> Point {
