@@ -7,7 +7,6 @@ use native.Mathlib.Omega.{arith}
 use lib.ListN.{length, take, getD, set, length-set, length-take, List·getD-eq-default}
 use lib.Seq.{getD-set-same, getD-set-other, set-out, getD-take, length-take-le}
 use Rattle.sweep.specs.Points.{Small, Ascending, Ready}
-use Rattle.sweep_test.specs.Lists.{Alike}
 
 pub small-set : (l : List ℕ) (i v : ℕ) → Small l → v ≤ 1048576 → Small (set l i v)
 small-set l i v h p k = go (ℕ-discrete k i) (decLe (suc i) (length l))
@@ -124,6 +123,3 @@ ready-again h e =
       reference-small = h .reference-small;
       rising = h .rising;
     }
-
-pub ready-alike : {xs ys zs r out : List ℕ} → Ready xs ys zs r out → Alike xs ys zs
-ready-alike h = record { ys-many = h .ys-many; zs-many = h .zs-many }

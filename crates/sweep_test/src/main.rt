@@ -2,19 +2,11 @@
 // reference, against a direct count of the cells.
 use hypervolume::Point;
 use libc::STDOUT_FILENO;
+use testing::noise;
+ghost use mathlib.Core.Path.{_≡_};
 ghost use Prim.Native.Nat.{_≤_, _<_};
 ghost use lib.ListN.{length};
 ghost use Rattle.sweep.specs.Points.{Small, Ascending, Ready};
-ghost use Rattle.sweep_test.specs.Lists.{Alike};
-
-// A number below 32,768 that looks random, the i-th of a kind for a set.
-fn noise(set: u64, kind: u64, i: u64) -> u64
-    ensures { λ r. ⌜ r < 32768 ⌝ }
-{
-    let seed = set % 65536 * 64 + kind % 4 * 16 + i % 16;
-    let mixed = (seed * 1103515245 + 12345) / 1024 % 4194304;
-    (mixed * 22695477 + seed) / 256 % 32768
-}
 
 // Coordinates below `limit`, so that many are equal where it is small.
 fn fill(set: u64, kind: u64, limit: u64, dst: &mut [u64])
@@ -55,91 +47,30 @@ fn point(set: u64, kind: u64, least: u32) -> Point
     }
 }
 
-// Whether a point dominates the cell (i, j, k).
-fn dominates(x: u64, y: u64, z: u64, i: u64, j: u64, k: u64) -> bool {
-    x <= i && y <= j && z <= k
+// A coordinate; beyond the box behind the end.
+fn coordinate(xs: &[u64], t: usize) -> u32 {
+    if t < xs.len() { (xs[t] % 16) as u32 } else { 8 }
 }
 
-// How many of the points dominate the cell.
-fn cover(xs: &[u64], ys: &[u64], zs: &[u64], i: u64, j: u64, k: u64) -> usize
-    requires { ⌜ Alike (now xs) (now ys) (now zs) ⌝ }
+// The points, three coordinates each; those behind the end dominate no cell.
+fn points(xs: &[u64], ys: &[u64], zs: &[u64]) -> [u32; 36]
+    ensures { λ r. ⌜ 36 ≡ length r ⌝ }
 {
-    let mut found: usize = 0;
+    let mut all = [8u32; 36];
+    for t in 0..12usize {
+        all[3 * t] = coordinate(xs, t);
+        all[3 * t + 1] = coordinate(ys, t);
+        all[3 * t + 2] = coordinate(zs, t);
+    }
+    all
+}
+
+// Whether the n counts in `out` are right: of each point's corner with u, the cells that one point alone dominates.
+fn right(points: &[u32], reference: Point, u: Point, out: &[u64], n: usize) -> bool {
     let mut t: usize = 0;
-    while t < xs.len() {
-        if dominates(xs[t], ys[t], zs[t], i, j, k) {
-            found = found + 1;
-        }
-        t = t + 1;
-    }
-    found
-}
-
-// 1 where the cell of this number lies within the reference, p dominates it, and from `least` to `most` of the points do.
-fn counts(
-    xs: &[u64],
-    ys: &[u64],
-    zs: &[u64],
-    reference: Point,
-    p: Point,
-    least: usize,
-    most: usize,
-    cell: u64,
-) -> u64
-    requires { ⌜ Alike (now xs) (now ys) (now zs) ⌝ }
-    ensures { λ r. ⌜ r ≤ 1 ⌝ }
-{
-    let i = cell / 64;
-    let j = cell / 8 % 8;
-    let k = cell % 8;
-    let rx = reference.at[0] as u64;
-    let ry = reference.at[1] as u64;
-    let rz = reference.at[2] as u64;
-    if rx <= i || ry <= j || rz <= k {
-        return 0;
-    }
-    let px = p.at[0] as u64;
-    let py = p.at[1] as u64;
-    let pz = p.at[2] as u64;
-    if !dominates(px, py, pz, i, j, k) {
-        return 0;
-    }
-    let over = cover(xs, ys, zs, i, j, k);
-    if over < least || most < over {
-        return 0;
-    }
-    1
-}
-
-// How many cells p dominates of which from `least` to `most` of the points do. The reference is at most 8 on each axis.
-fn cells(
-    xs: &[u64],
-    ys: &[u64],
-    zs: &[u64],
-    reference: Point,
-    p: Point,
-    least: usize,
-    most: usize,
-) -> u64
-    requires { ⌜ Alike (now xs) (now ys) (now zs) ⌝ }
-{
-    let mut found: u64 = 0;
-    for cell in 0..512u64 {
-        found = found + counts(xs, ys, zs, reference, p, least, most, cell);
-    }
-    found
-}
-
-// Whether the counts in `out` are right: of each point's corner with u, the cells that one point alone dominates.
-fn right(xs: &[u64], ys: &[u64], zs: &[u64], reference: Point, u: Point, out: &[u64]) -> bool
-    requires { ⌜ Ready (now xs) (now ys) (now zs) (reference .at) (now out) ⌝ }
-{
-    let mut t: usize = 0;
-    while t < xs.len() {
-        let trial = Point {
-            at: [xs[t] as u32, ys[t] as u32, zs[t] as u32],
-        };
-        if cells(xs, ys, zs, reference, u.join(trial), 1, 1) != out[t] {
+    while t < n {
+        let corner = u.join(testing::point_at(points, t));
+        if testing::cells(points, reference, corner, 1, 1) != testing::at(out, t) {
             return false;
         }
         t = t + 1;
@@ -152,18 +83,15 @@ fn agree(xs: &[u64], ys: &[u64], zs: &[u64], reference: Point, u: Point, out: &m
     requires { ⌜ Ready (now xs) (now ys) (now zs) (reference .at) (now out) × Small (u .at) ⌝ }
 {
     let origin = Point { at: [0, 0, 0] };
+    let all = points(xs, ys, zs);
+    let n = xs.len();
     let total = sweep::sweep(xs, ys, zs, reference, out);
-    if total != cells(xs, ys, zs, reference, origin, 1, 512) {
-        return false;
-    }
-    if !right(xs, ys, zs, reference, origin, out) {
-        return false;
-    }
+    let swept = right(&all, reference, origin, out, n);
     let gain = corners::update(xs, ys, zs, u, reference, out);
-    if gain != cells(xs, ys, zs, reference, u, 0, 0) {
-        return false;
-    }
-    right(xs, ys, zs, reference, u, out)
+    let updated = right(&all, reference, u, out, n);
+    let total_due = testing::cells(&all, reference, origin, 1, 12);
+    let gain_due = testing::cells(&all, reference, u, 0, 0);
+    swept && updated && total == total_due && gain == gain_due
 }
 
 // The set of this number: up to 12 points, with coordinates below 1 to 10.

@@ -1,75 +1,54 @@
 // Reads fields and lines of the form and damaged ones, writes columns, and prints how many came out as they should.
-ghost use Prim.Native.Nat.{_≤_};
+ghost use Prim.Native.Nat.{_+_, _≤_};
+ghost use lib.ListN.{length};
+use testing::at;
+use testing::one;
+use testing::print;
 use text::Field;
 use text::Line;
 
-// 1 where the field has this value.
-fn reads(field: &[u8], due: u64) -> u64
+// 1 where the field at a byte has this value.
+fn reads(fields: &[u8], from: usize, due: u64) -> u64
+    requires { ⌜ from + 8 ≤ length (now fields) ⌝ }
     ensures { λ r. ⌜ r ≤ 1 ⌝ }
 {
-    if field.len() < 8 {
-        return 0;
-    }
-    let Field::Value(v) = text::field_at(field, 0) else {
+    let Field::Value(v) = text::field_at(fields, from) else {
         return 0;
     };
     if v == due { 1 } else { 0 }
 }
 
-// 1 where the field is not of the form.
-fn damaged(field: &[u8]) -> u64
+// 1 where it is not of the form.
+fn damaged(fields: &[u8], from: usize) -> u64
+    requires { ⌜ from + 8 ≤ length (now fields) ⌝ }
     ensures { λ r. ⌜ r ≤ 1 ⌝ }
 {
-    if field.len() < 8 {
-        return 0;
-    }
-    match text::field_at(field, 0) {
+    match text::field_at(fields, from) {
         Field::Value(_) => 0,
         Field::Malformed => 1,
     }
 }
 
-fn good_fields() -> u64
-    ensures { λ r. ⌜ r ≤ 6 ⌝ }
-{
-    reads(b"       0", 0)
-        + reads(b"       9", 9)
-        + reads(b"      10", 10)
-        + reads(b" 1048576", 1048576)
-        + reads(b"10000000", 10000000)
-        + reads(b"99999999", 99999999)
+// How many of the fields, one behind the other, have these values.
+fn good_fields(fields: &[u8], values: &[u64]) -> u64 {
+    let mut found: u64 = 0;
+    let mut from: usize = 0;
+    while from + 8 <= fields.len() {
+        found = found % 1000 + reads(fields, from, at(values, from / 8));
+        from += 8;
+    }
+    found
 }
 
-// No digit, and a leading zero.
-fn no_numbers() -> u64
-    ensures { λ r. ⌜ r ≤ 5 ⌝ }
-{
-    damaged(b"        ")
-        + damaged(b"      00")
-        + damaged(b"      07")
-        + damaged(b"00000000")
-        + damaged(b"01234567")
-}
-
-// Spaces inside and behind.
-fn not_justified() -> u64
-    ensures { λ r. ⌜ r ≤ 4 ⌝ }
-{
-    damaged(b"      1 ") + damaged(b"     1 2") + damaged(b"12      ") + damaged(b"1      2")
-}
-
-// Bytes that are no digits: those next to the digits, signs, letters, other blanks.
-fn no_digits() -> u64
-    ensures { λ r. ⌜ r ≤ 8 ⌝ }
-{
-    damaged(b"       /")
-        + damaged(b"      1:")
-        + damaged(b"      -1")
-        + damaged(b"      +1")
-        + damaged(b"      1a")
-        + damaged(b"     \t 1")
-        + damaged(b"      1\n")
-        + damaged(b"\x00      1")
+// How many are not of the form.
+fn damaged_fields(fields: &[u8]) -> u64 {
+    let mut found: u64 = 0;
+    let mut from: usize = 0;
+    while from + 8 <= fields.len() {
+        found = found % 1000 + damaged(fields, from);
+        from += 8;
+    }
+    found
 }
 
 // 1 where the line at byte `at` has the values 8, 1, 22 and 333.
@@ -112,59 +91,77 @@ fn damaged_line(card: &[u8], at: usize) -> u64
     }
 }
 
-// The line whole and as a second one; a byte too early and too late; behind the end.
-fn lines() -> u64
-    ensures { λ r. ⌜ r ≤ 7 ⌝ }
-{
-    let card = b"       8       1      22     333\n       8       1      22     333\n";
-    good_line(card, 0)
-        + good_line(card, 33)
-        + damaged_line(card, 32)
-        + damaged_line(card, 34)
-        + damaged_line(card, 66)
-        + damaged_line(card, 67)
-        + damaged_line(card, 18446744073709551615)
+// How many of the lines at these bytes are not of the form.
+fn damaged_lines(card: &[u8], places: &[usize]) -> u64 {
+    let mut found: u64 = 0;
+    let mut t: usize = 0;
+    while t < places.len() {
+        found = found % 1000 + damaged_line(card, places[t]);
+        t += 1;
+    }
+    found
 }
 
-// Each field damaged, no byte 10, and a line cut short.
-fn damaged_lines() -> u64
-    ensures { λ r. ⌜ r ≤ 7 ⌝ }
-{
-    damaged_line(b"      08       1      22     333\n", 0)
-        + damaged_line(b"       8              22     333\n", 0)
-        + damaged_line(b"       8       1     22      333\n", 0)
-        + damaged_line(b"       8       1      22     33x\n", 0)
-        + damaged_line(b"       8       1      22     333 ", 0)
-        + damaged_line(b"       8       1      22     333", 0)
-        + damaged_line(b"", 0)
+// The line whole and as a second one; a byte too early and too late; behind the end.
+fn lines() -> u64 {
+    let card = b"       8       1      22     333\n       8       1      22     333\n";
+    let whole = good_line(card, 0) + good_line(card, 33);
+    whole + damaged_lines(card, &[32, 34, 66, 67, 18446744073709551615]) % 1000
+}
+
+// Each field damaged, no byte 10, and a line cut short; no line.
+fn broken_lines() -> u64 {
+    let card =
+        b"      08       1      22     333\n       8              22     333\n       8       1     22      333\n       8       1      22     33x\n       8       1      22     333        8       1      22     333";
+    damaged_lines(card, &[0, 33, 66, 99, 132, 165]) % 1000 + damaged_lines(b"", &[0]) % 1000
+}
+
+// Writes the values into columns of these widths one behind the other, from byte 1 on, while there is room.
+fn write(out: &mut [u8], widths: &[usize], values: &[u64]) {
+    let mut from: usize = 1;
+    let mut t: usize = 0;
+    while t < widths.len() {
+        let width = widths[t];
+        if width == 0 {
+            return;
+        }
+        if out.len() < width {
+            return;
+        }
+        if out.len() - width < from {
+            return;
+        }
+        text::put_number(out, from, width, at(values, t));
+        from += width;
+        t += 1;
+    }
 }
 
 // 1 where columns written one behind the other, with a byte free on either side, are the bytes due.
-fn columns() -> u64
-    ensures { λ r. ⌜ r ≤ 1 ⌝ }
-{
+fn columns() -> u64 {
     let mut out = [b'.'; 78];
-    text::put_number(&mut out, 1, 8, 0);
-    text::put_number(&mut out, 9, 8, 9);
-    text::put_number(&mut out, 17, 8, 10);
-    text::put_number(&mut out, 25, 8, 99999999);
-    text::put_number(&mut out, 33, 20, 0);
-    text::put_number(&mut out, 53, 20, 18446744073709551615);
-    text::put_number(&mut out, 73, 3, 12);
-    text::put_number(&mut out, 76, 1, 7);
+    write(
+        &mut out,
+        &[8, 8, 8, 8, 20, 20, 3, 1],
+        &[0, 9, 10, 99999999, 0, 18446744073709551615, 12, 7],
+    );
     let due = b".       0       9      1099999999                   018446744073709551615 127.";
-    if check::same(&out, due) { 1 } else { 0 }
-}
-
-fn print(name: &[u8], count: u64) {
-    io::write_all(1, name);
-    io::print_decimal(1, count);
+    one(check::same(&out, due))
 }
 
 fn main() {
-    print(b"fields ", good_fields());
-    print(b" damaged ", no_numbers() + not_justified() + no_digits());
-    print(b" lines ", lines() + damaged_lines());
+    // Damaged: no digit and a leading zero; spaces inside and behind; bytes that are no digits.
+    let good = good_fields(
+        b"       0       9      10 10485761000000099999999",
+        &[0, 9, 10, 1048576, 10000000, 99999999],
+    );
+    let bad = damaged_fields(b"              00      070000000001234567") % 1000
+        + damaged_fields(b"      1      1 212      1      2") % 1000
+        + damaged_fields(b"       /      1:      -1      +1      1a     \t 1      1\n\x00      1")
+            % 1000;
+    print(b"fields ", good);
+    print(b" damaged ", bad);
+    print(b" lines ", lines() % 1000 + broken_lines() % 1000);
     print(b" columns ", columns());
     io::write_all(1, b"\n");
 }

@@ -1,59 +1,29 @@
 -- `right` is safe and ends.
 use Prim.Native.Nat.{_-_, _≤_}
-use native.Mathlib.Omega.{arith}
-use lib.ListN.{length}
 use borrow.Author.Needs.{needs}
-use Rattle.sweep_test.proofs.Lists.{ready-alike}
 use Rattle.sweep_test.proofs.right.Statement.{statement}
 use Rattle.sweep_test.proofs.right.Tie as tie
 
 abbrev Inv-loop : tie.InvT-loop
-Inv-loop xs ys zs reference u out t₀ t = t ≤ length xs
+Inv-loop points reference u out n t₀ t = t ≤ n
 
 abbrev μ-loop : tie.MeasureT-loop
-μ-loop xs ys zs reference u out t₀ t = length xs - t
+μ-loop points reference u out n t₀ t = n - t
 
 loop-holds : tie.Need-loop-holds Inv-loop μ-loop
 loop-holds c = search needs
 
-mul-t9 : tie.Need-mul-t9 Inv-loop μ-loop
-mul-t9 c = search needs
-
-shared-slice-read-t12 : tie.Need-shared-slice-read-t12 Inv-loop μ-loop
-shared-slice-read-t12 c = search needs
-
-cast-t13 : tie.Need-cast-t13 Inv-loop μ-loop
-cast-t13 c = omega (arith, c .before .before .before .before .before .before .before .pre .xs-small (c .before .before .loop .t))
-
-mul-t14 : tie.Need-mul-t14 Inv-loop μ-loop
-mul-t14 c = search needs
-
-shared-slice-read-t16 : tie.Need-shared-slice-read-t16 Inv-loop μ-loop
-shared-slice-read-t16 c = search needs
-
-cast-t17 : tie.Need-cast-t17 Inv-loop μ-loop
-cast-t17 c = omega (arith, c .before .before .before .before .before .before .before .before .pre .ys-small (c .before .before .before .loop .t))
-
-mul-t18 : tie.Need-mul-t18 Inv-loop μ-loop
-mul-t18 c = search needs
-
-shared-slice-read-t20 : tie.Need-shared-slice-read-t20 Inv-loop μ-loop
-shared-slice-read-t20 c = search needs
-
-cast-t21 : tie.Need-cast-t21 Inv-loop μ-loop
-cast-t21 c = omega (arith, c .before .before .before .before .before .before .before .before .before .pre .zs-small (c .before .before .before .before .loop .t))
+point-at-requires : tie.Need-point-at-requires Inv-loop μ-loop
+point-at-requires c κs = search needs
 
 join-requires : tie.Need-join-requires Inv-loop μ-loop
 join-requires c κs = search needs
 
 cells-requires : tie.Need-cells-requires Inv-loop μ-loop
-cells-requires c κs = ready-alike (c .before .before .before .before .before .before .before .before .before .before .pre)
+cells-requires c κs = search needs
 
-mul-if1 : tie.Need-mul-if1 Inv-loop μ-loop
-mul-if1 c = search needs
-
-shared-slice-read-if1 : tie.Need-shared-slice-read-if1 Inv-loop μ-loop
-shared-slice-read-if1 c = search needs
+at-requires : tie.Need-at-requires Inv-loop μ-loop
+at-requires c κs = search needs
 
 returns : tie.Need-returns Inv-loop μ-loop
 returns c = search needs
@@ -77,19 +47,10 @@ right-spec =
     Inv-loop
     μ-loop
     loop-holds
-    mul-t9
-    shared-slice-read-t12
-    cast-t13
-    mul-t14
-    shared-slice-read-t16
-    cast-t17
-    mul-t18
-    shared-slice-read-t20
-    cast-t21
+    point-at-requires
     join-requires
     cells-requires
-    mul-if1
-    shared-slice-read-if1
+    at-requires
     returns
     add-t
     loop-less

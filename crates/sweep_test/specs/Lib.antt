@@ -1,2 +1,0 @@
--- What the functions of the test ask of their lists.
-pub mod Lists
