@@ -13,25 +13,25 @@ use borrow.Author.Tests.{lt-leb}
 use Rattle.slices.specs.Choices.{both}
 use Rattle.hypervolume.specs.Cells.{dominates, join}
 use Rattle.slices.proofs.Choices.{both-comm}
-use Rattle.sweep.specs.Points.{points}
-use Rattle.corners.specs.Limits.{Alike, pick, kept, corners, Collecting, Raised, Stands, Collected}
+use Rattle.sweep.specs.Points.{zip-points}
+use Rattle.corners.specs.Limits.{SameLength, pick, passing, corners, Collecting, CornersOn, Stands, Collected}
 use Rattle.sweep.proofs.Coordinates.{points-length, points-at}
 use Rattle.sweep.proofs.Lists.{ascending-at}
 use Rattle.sweep.proofs.Sweeps.{three}
 use Rattle.corners.proofs.Keeping.{corner-within}
 
 -- One more point.
-kept-more : (test : List ℕ → Bool) (trials : List (List ℕ)) (t : List ℕ) → kept test (trials ++ (t ∷ [])) ≡ kept test trials ++ pick (test t) t []
-unfolding kept
-kept-more test [] t = refl
-kept-more test (s ∷ trials) t = go (test s) (kept-more test trials t)
+passing-more : (test : List ℕ → Bool) (trials : List (List ℕ)) (t : List ℕ) → passing test (trials ++ (t ∷ [])) ≡ passing test trials ++ pick (test t) t []
+unfolding passing
+passing-more test [] t = refl
+passing-more test (s ∷ trials) t = go (test s) (passing-more test trials t)
   where
-    go : (b : Bool) → kept test (trials ++ (t ∷ [])) ≡ kept test trials ++ pick (test t) t [] → pick b s (kept test (trials ++ (t ∷ []))) ≡ pick b s (kept test trials) ++ pick (test t) t []
+    go : (b : Bool) → passing test (trials ++ (t ∷ [])) ≡ passing test trials ++ pick (test t) t [] → pick b s (passing test (trials ++ (t ∷ []))) ≡ pick b s (passing test trials) ++ pick (test t) t []
     go true e = ap (λ l. s ∷ l) e
     go false e = e
 
-points-more : (xs ys zs : List ℕ) (x y z : ℕ) → length ys ≡ length xs → length zs ≡ length xs → points (xs ++ (x ∷ [])) (ys ++ (y ∷ [])) (zs ++ (z ∷ [])) ≡ points xs ys zs ++ ((x ∷ y ∷ z ∷ []) ∷ [])
-unfolding points
+points-more : (xs ys zs : List ℕ) (x y z : ℕ) → length ys ≡ length xs → length zs ≡ length xs → zip-points (xs ++ (x ∷ [])) (ys ++ (y ∷ [])) (zs ++ (z ∷ [])) ≡ zip-points xs ys zs ++ ((x ∷ y ∷ z ∷ []) ∷ [])
+unfolding zip-points
 points-more [] [] [] x y z e f = refl
 points-more [] [] (c ∷ zs) x y z e f = absurd (let no′ : ⊥ = omega arith in no′)
 points-more [] (b ∷ ys) zs x y z e f = absurd (let no′ : ⊥ = omega arith in no′)
@@ -40,17 +40,17 @@ points-more (a ∷ xs) (b ∷ ys) [] x y z e f = absurd (let no′ : ⊥ = omega
 points-more (a ∷ xs) (b ∷ ys) (c ∷ zs) x y z e f = ap (λ l. (a ∷ b ∷ c ∷ []) ∷ l) (points-more xs ys zs x y z (omega arith) (omega arith))
 
 -- The corners, by their points.
-pub corners-length : {xs ys zs : List ℕ} (u : List ℕ) → Alike xs ys zs → length (corners u xs ys zs) ≡ length xs
-corners-length {xs} {ys} {zs} u a = length-map (points xs ys zs) (join u) ∙ points-length xs ys zs (a .ys-many) (a .zs-many)
+pub corners-length : {xs ys zs : List ℕ} (u : List ℕ) → SameLength xs ys zs → length (corners u xs ys zs) ≡ length xs
+corners-length {xs} {ys} {zs} u a = length-map (zip-points xs ys zs) (join u) ∙ points-length xs ys zs (a .ys-many) (a .zs-many)
 
 getD-corner : (u : List ℕ) (trials : List (List ℕ)) (j : ℕ) → j < length trials → getD (map (join u) trials) j [] ≡ join u (getD trials j [])
 getD-corner u [] j l = absurd (let no′ : ⊥ = omega arith in no′)
 getD-corner u (t ∷ trials) zero l = refl
 getD-corner u (t ∷ trials) (suc j) l = getD-corner u trials j (omega arith)
 
-pub corner-at : {xs ys zs : List ℕ} (u : List ℕ) → Alike xs ys zs → (j : ℕ) → j < length xs → getD (corners u xs ys zs) j [] ≡ join u (getD xs j 0 ∷ getD ys j 0 ∷ getD zs j 0 ∷ [])
+pub corner-at : {xs ys zs : List ℕ} (u : List ℕ) → SameLength xs ys zs → (j : ℕ) → j < length xs → getD (corners u xs ys zs) j [] ≡ join u (getD xs j 0 ∷ getD ys j 0 ∷ getD zs j 0 ∷ [])
 corner-at {xs} {ys} {zs} u a j l =
-    getD-corner u (points xs ys zs) j (omega (arith, points-length xs ys zs (a .ys-many) (a .zs-many)))
+    getD-corner u (zip-points xs ys zs) j (omega (arith, points-length xs ys zs (a .ys-many) (a .zs-many)))
     ∙ ap (join u) (points-at xs ys zs j (a .ys-many) (a .zs-many) l)
 
 -- The loop. u is given by its coordinates.
@@ -66,7 +66,7 @@ pub record Gathering (xs ys zs limit kx₀ ky₀ kz₀ places₀ out₀ : List �
   pub collected : Collected xs ys zs (ux ∷ uy ∷ uz ∷ []) limit i kx ky kz places m
 
 pub gathering-none : {xs ys zs limit kx ky kz places out : List ℕ} (u : List ℕ) → length u ≡ 3 → Collecting xs ys zs u limit kx ky kz places out → Gathering xs ys zs limit kx ky kz places out (getD u 0 0) (getD u 1 0) (getD u 2 0) kx ky kz places out 0 0
-unfolding points kept
+unfolding zip-points passing
 gathering-none u e h =
     record {
       asked = rw (three u e) h;
@@ -91,8 +91,8 @@ gathering-none u e h =
     }
 
 -- One more corner's coordinate on one axis.
-raised-more : (u : ℕ) (src places ks : List ℕ) (m i v : ℕ) → Raised u src places ks m → m < length places → m < length ks → v ≡ max u (getD src i 0) → Raised u src (set places m i) (set ks m v) (m + 1)
-raised-more u src places ks m i v h p q e k l = go (decLe (suc k) m)
+corners-on-more : (u : ℕ) (src places ks : List ℕ) (m i v : ℕ) → CornersOn u src places ks m → m < length places → m < length ks → v ≡ max u (getD src i 0) → CornersOn u src (set places m i) (set ks m v) (m + 1)
+corners-on-more u src places ks m i v h p q e k l = go (decLe (suc k) m)
   where
     go : Dec (k < m) → getD (set ks m v) k 0 ≡ max u (getD src (getD (set places m i) k 0) 0)
     go (yes a) =
@@ -194,9 +194,9 @@ module _ {xs ys zs limit kx₀ ky₀ kz₀ places₀ out₀ : List ℕ} {ux uy u
   tested : dominates (join u p) limit ≡ dominates p limit
   tested = corner-within u p limit (h .asked .above)
 
-  kept-next : (t : Bool) → dominates p limit ≡ t → kept (λ t. dominates t limit) (take (i + 1) (corners u xs ys zs)) ≡ kept (λ t. dominates t limit) (take i (corners u xs ys zs)) ++ pick t (join u p) []
-  kept-next t e =
-      rw (next, kept-more (λ t. dominates t limit) (take i (corners u xs ys zs)) (join u p), tested, e)
+  passing-next : (t : Bool) → dominates p limit ≡ t → passing (λ t. dominates t limit) (take (i + 1) (corners u xs ys zs)) ≡ passing (λ t. dominates t limit) (take i (corners u xs ys zs)) ++ pick t (join u p) []
+  passing-next t e =
+      rw (next, passing-more (λ t. dominates t limit) (take i (corners u xs ys zs)) (join u p), tested, e)
 
   pub gathering-skip : dominates p limit ≡ false → Gathering xs ys zs limit kx₀ ky₀ kz₀ places₀ out₀ ux uy uz kx ky kz places (set out i 0) m (i + 1)
   gathering-skip e =
@@ -212,7 +212,7 @@ module _ {xs ys zs limit kx₀ ky₀ kz₀ places₀ out₀ : List ℕ} {ux uy u
         collected =
             record {
               few = omega (arith, old .few);
-              all = old .all ∙ sym (kept-next false e ∙ append-nil _);
+              all = old .all ∙ sym (passing-next false e ∙ append-nil _);
               x = old .x;
               y = old .y;
               z = old .z;
@@ -245,9 +245,9 @@ module _ {xs ys zs limit kx₀ ky₀ kz₀ places₀ out₀ : List ℕ} {ux uy u
             record {
               few = omega (arith, old .few);
               all = all;
-              x = raised-more ux xs places kx m i vx (old .x) places-room kx-room ex;
-              y = raised-more uy ys places ky m i vy (old .y) places-room ky-room ey;
-              z = raised-more uz zs places kz m i vz (old .z) places-room kz-room ez;
+              x = corners-on-more ux xs places kx m i vx (old .x) places-room kx-room ex;
+              y = corners-on-more uy ys places ky m i vy (old .y) places-room ky-room ey;
+              z = corners-on-more uz zs places kz m i vz (old .z) places-room kz-room ez;
               inside = λ k q. inside k q (decLe (suc k) m);
               rising = λ k q. rising k q (decLe (suc (suc k)) m);
               every = λ j q d. every j d q (decLe (suc j) i);
@@ -266,13 +266,13 @@ module _ {xs ys zs limit kx₀ ky₀ kz₀ places₀ out₀ : List ℕ} {ux uy u
       kz-room : m < length kz
       kz-room = omega (arith, h .kz-long, h .asked .kz-room, old .few)
 
-      all : points (take (m + 1) (set kx m vx)) (take (m + 1) (set ky m vy)) (take (m + 1) (set kz m vz)) ≡ kept (λ t. dominates t limit) (take (i + 1) (corners u xs ys zs))
+      all : zip-points (take (m + 1) (set kx m vx)) (take (m + 1) (set ky m vy)) (take (m + 1) (set kz m vz)) ≡ passing (λ t. dominates t limit) (take (i + 1) (corners u xs ys zs))
       all =
           let kx-many : length (take m kx) ≡ m = length-take-le m kx (omega arith) in
           let ky-many : length (take m ky) ≡ m = length-take-le m ky (omega arith) in
           let kz-many : length (take m kz) ≡ m = length-take-le m kz (omega arith) in
           rw (add-one m, take-suc-set kx m vx kx-room, take-suc-set ky m vy ky-room, take-suc-set kz m vz kz-room, points-more (take m kx) (take m ky) (take m kz) vx vy vz (omega arith) (omega arith), old .all, ex, ey, ez)
-          (sym (kept-next true e))
+          (sym (passing-next true e))
 
       inside : (k : ℕ) → k < m + 1 → Dec (k < m) → getD (set places m i) k 0 < i + 1
       inside k q (yes a) = rw (getD-set-other places m k i 0 (λ g. omega arith)) (omega (arith, old .inside k a))
@@ -311,19 +311,19 @@ gathering-end {xs} {i = i} u e h l =
     (rw (three u e, whole) at (h .collected), rw whole at (h .cleared))
 
 -- Past the limit on z.
-kept-append : (test : List ℕ → Bool) (s t : List (List ℕ)) → kept test (s ++ t) ≡ kept test s ++ kept test t
-unfolding kept
-kept-append test [] t = refl
-kept-append test (a ∷ s) t = go (test a) (kept-append test s t)
+passing-append : (test : List ℕ → Bool) (s t : List (List ℕ)) → passing test (s ++ t) ≡ passing test s ++ passing test t
+unfolding passing
+passing-append test [] t = refl
+passing-append test (a ∷ s) t = go (test a) (passing-append test s t)
   where
-    go : (b : Bool) → kept test (s ++ t) ≡ kept test s ++ kept test t → pick b a (kept test (s ++ t)) ≡ pick b a (kept test s) ++ kept test t
+    go : (b : Bool) → passing test (s ++ t) ≡ passing test s ++ passing test t → pick b a (passing test (s ++ t)) ≡ pick b a (passing test s) ++ passing test t
     go true e = ap (λ l. a ∷ l) e
     go false e = e
 
-kept-none : (test : List ℕ → Bool) (t : List (List ℕ)) → ((j : ℕ) → j < length t → test (getD t j []) ≡ false) → kept test t ≡ []
-unfolding kept
-kept-none test [] h = refl
-kept-none test (a ∷ t) h = rw (h 0 (omega arith)) (kept-none test t (λ j l. h (suc j) (omega arith)))
+passing-none : (test : List ℕ → Bool) (t : List (List ℕ)) → ((j : ℕ) → j < length t → test (getD t j []) ≡ false) → passing test t ≡ []
+unfolding passing
+passing-none test [] h = refl
+passing-none test (a ∷ t) h = rw (h 0 (omega arith)) (passing-none test t (λ j l. h (suc j) (omega arith)))
 
 past : (x y z : ℕ) (limit : List ℕ) → length limit ≡ 3 → getD limit 2 0 < z → dominates (x ∷ y ∷ z ∷ []) limit ≡ false
 unfolding dominates both
@@ -344,16 +344,16 @@ module _ {xs ys zs limit kx₀ ky₀ kz₀ places₀ out₀ : List ℕ} {ux uy u
   long′ : length all′ ≡ length xs
   long′ = corners-length (ux ∷ uy ∷ uz ∷ []) (h .asked .alike)
 
-  none-behind : kept (λ t. dominates t limit) (take (length xs) all′) ≡ kept (λ t. dominates t limit) (take i all′)
+  none-behind : passing (λ t. dominates t limit) (take (length xs) all′) ≡ passing (λ t. dominates t limit) (take i all′)
   none-behind =
-      let nothing : kept (λ t. dominates t limit) (drop i all′) ≡ [] =
-      kept-none (λ t. dominates t limit) (drop i all′)
+      let nothing : passing (λ t. dominates t limit) (drop i all′) ≡ [] =
+      passing-none (λ t. dominates t limit) (drop i all′)
       (λ j n.
       rw (getD-drop i all′ j [])
       (none-within (i + j) (omega arith) (omega (arith, length-drop i all′, long′)))) in
-      ap (kept (λ t. dominates t limit)) (take-all (length xs) all′ (omega (arith, long′)) ∙ sym (take-append-drop i all′))
-      ∙ kept-append (λ t. dominates t limit) (take i all′) (drop i all′)
-      ∙ rw nothing (append-nil (kept (λ t. dominates t limit) (take i all′)))
+      ap (passing (λ t. dominates t limit)) (take-all (length xs) all′ (omega (arith, long′)) ∙ sym (take-append-drop i all′))
+      ∙ passing-append (λ t. dominates t limit) (take i all′) (drop i all′)
+      ∙ rw nothing (append-nil (passing (λ t. dominates t limit) (take i all′)))
 
   stopped : Collected xs ys zs (ux ∷ uy ∷ uz ∷ []) limit (length xs) kx ky kz places m
   stopped =

@@ -12,59 +12,59 @@ use Rattle.slices.proofs.Choices.{both-true}
 use Rattle.hypervolume.proofs.Dominance.{dominates-join, cover-append}
 use Rattle.hypervolume.proofs.Counting.{SameCover, total-same, contribution-same, Twice}
 use Rattle.hypervolume.proofs.Skips.{Spare, total-skips, contribution-skips, contribution-spare, Beyond, beyond, moved-corner}
-use Rattle.corners.specs.Limits.{Limits, pick, kept}
+use Rattle.corners.specs.Limits.{Limits, pick, passing}
 
 -- The points that fail the test.
-abbrev rest : (List ℕ → Bool) → List (List ℕ) → List (List ℕ)
-rest test trials = kept (λ t. not (test t)) trials
+abbrev failing : (List ℕ → Bool) → List (List ℕ) → List (List ℕ)
+failing test trials = passing (λ t. not (test t)) trials
 
-parted : (test : List ℕ → Bool) (trials : List (List ℕ)) → SameCover trials (rest test trials ++ kept test trials)
-unfolding SameCover cover kept
-parted test trials c = go trials ∙ sym (cover-append (rest test trials) (kept test trials) c)
+parted : (test : List ℕ → Bool) (trials : List (List ℕ)) → SameCover trials (failing test trials ++ passing test trials)
+unfolding SameCover cover passing
+parted test trials c = go trials ∙ sym (cover-append (failing test trials) (passing test trials) c)
   where
     one : (b : Bool) (t : List ℕ) (r k : List (List ℕ)) → holds (dominates t c) + (cover r c + cover k c) ≡ cover (pick (not b) t r) c + cover (pick b t k) c
     one true t r k = omega arith
     one false t r k = omega arith
 
-    go : (trials : List (List ℕ)) → cover trials c ≡ cover (rest test trials) c + cover (kept test trials) c
+    go : (trials : List (List ℕ)) → cover trials c ≡ cover (failing test trials) c + cover (passing test trials) c
     go [] = refl
-    go (t ∷ trials) = ap (λ n. holds (dominates t c) + n) (go trials) ∙ one (test t) t (rest test trials) (kept test trials)
+    go (t ∷ trials) = ap (λ n. holds (dominates t c) + n) (go trials) ∙ one (test t) t (failing test trials) (passing test trials)
 
 -- Every point that fails is one that law 6 leaves out.
-rest-spare : (test : List ℕ → Bool) (stay trials : List (List ℕ)) → ((j : ℕ) → j < length trials → test (getD trials j []) ≡ false → Twice stay (getD trials j [])) → Spare stay (rest test trials)
-unfolding Spare kept
-rest-spare test stay [] h = λ j l. absurd (let no′ : ⊥ = omega arith in no′)
-rest-spare test stay (t ∷ trials) h = go (test t) refl (rest-spare test stay trials (λ j l. h (suc j) (omega arith)))
+failing-spare : (test : List ℕ → Bool) (stay trials : List (List ℕ)) → ((j : ℕ) → j < length trials → test (getD trials j []) ≡ false → Twice stay (getD trials j [])) → Spare stay (failing test trials)
+unfolding Spare passing
+failing-spare test stay [] h = λ j l. absurd (let no′ : ⊥ = omega arith in no′)
+failing-spare test stay (t ∷ trials) h = go (test t) refl (failing-spare test stay trials (λ j l. h (suc j) (omega arith)))
   where
-    go : (b : Bool) → test t ≡ b → Spare stay (rest test trials) → (j : ℕ) → j < length (pick (not b) t (rest test trials)) → Twice stay (getD (pick (not b) t (rest test trials)) j [])
+    go : (b : Bool) → test t ≡ b → Spare stay (failing test trials) → (j : ℕ) → j < length (pick (not b) t (failing test trials)) → Twice stay (getD (pick (not b) t (failing test trials)) j [])
     go true e later j l = later j l
     go false e later zero l = h 0 (omega arith) e
     go false e later (suc j) l = later j (omega arith)
 
-module _ (r : List ℕ) (test : List ℕ → Bool) (trials : List (List ℕ)) (h : (j : ℕ) → j < length trials → test (getD trials j []) ≡ false → Twice (kept test trials) (getD trials j [])) where
-  spare : Spare (kept test trials) (rest test trials)
-  spare = rest-spare test (kept test trials) trials h
+module _ (r : List ℕ) (test : List ℕ → Bool) (trials : List (List ℕ)) (h : (j : ℕ) → j < length trials → test (getD trials j []) ≡ false → Twice (passing test trials) (getD trials j [])) where
+  spare : Spare (passing test trials) (failing test trials)
+  spare = failing-spare test (passing test trials) trials h
 
-  pub kept-total : total r (kept test trials) ≡ total r trials
-  kept-total =
-      sym (total-same r trials (rest test trials ++ kept test trials) (parted test trials) ∙ total-skips r (kept test trials) (rest test trials) spare)
+  pub passing-total : total r (passing test trials) ≡ total r trials
+  passing-total =
+      sym (total-same r trials (failing test trials ++ passing test trials) (parted test trials) ∙ total-skips r (passing test trials) (failing test trials) spare)
 
-  pub kept-contribution : (t : List ℕ) → contribution r (kept test trials) t ≡ contribution r trials t
-  kept-contribution t =
-      sym (contribution-same r trials (rest test trials ++ kept test trials) t (parted test trials) ∙ contribution-skips r (kept test trials) (rest test trials) t spare)
+  pub passing-contribution : (t : List ℕ) → contribution r (passing test trials) t ≡ contribution r trials t
+  passing-contribution t =
+      sym (contribution-same r trials (failing test trials ++ passing test trials) t (parted test trials) ∙ contribution-skips r (passing test trials) (failing test trials) t spare)
 
-  pub rest-contribution : (j : ℕ) → j < length trials → test (getD trials j []) ≡ false → contribution r trials (getD trials j []) ≡ 0
-  rest-contribution j l e = sym (kept-contribution (getD trials j [])) ∙ contribution-spare r (kept test trials) (getD trials j []) (h j l e)
+  pub failing-contribution : (j : ℕ) → j < length trials → test (getD trials j []) ≡ false → contribution r trials (getD trials j []) ≡ 0
+  failing-contribution j l e = sym (passing-contribution (getD trials j [])) ∙ contribution-spare r (passing test trials) (getD trials j []) (h j l e)
 
 -- A limit: what is within it covers a cell as often as the points that lie close enough to u.
-corners-cover : (test : List ℕ → Bool) (u : List ℕ) (trials : List (List ℕ)) (s c : List ℕ) → ((j : ℕ) → j < length trials → dominates (getD trials j []) s ≡ true → (test (join u (getD trials j [])) ≡ true) × (dominates (join u (getD trials j [])) c ≡ true)) → cover trials s ≤ cover (kept test (map (join u) trials)) c
-unfolding cover kept holds
+corners-cover : (test : List ℕ → Bool) (u : List ℕ) (trials : List (List ℕ)) (s c : List ℕ) → ((j : ℕ) → j < length trials → dominates (getD trials j []) s ≡ true → (test (join u (getD trials j [])) ≡ true) × (dominates (join u (getD trials j [])) c ≡ true)) → cover trials s ≤ cover (passing test (map (join u) trials)) c
+unfolding cover passing holds
 corners-cover test u [] s c h = omega arith
 corners-cover test u (t ∷ trials) s c h =
     go (dominates t s) refl (test (join u t)) refl (corners-cover test u trials s c (λ j l. h (suc j) (omega arith)))
   where
     k : List (List ℕ)
-    k = kept test (map (join u) trials)
+    k = passing test (map (join u) trials)
 
     go : (d : Bool) → dominates t s ≡ d → (b : Bool) → test (join u t) ≡ b → cover trials s ≤ cover k c → holds d + cover trials s ≤ cover (pick b (join u t) k) c
     go false p true q later = omega arith
@@ -80,7 +80,7 @@ unfolding both
 corner-within u t limit e = rw (dominates-join u t limit, e)
 
 -- So a corner beyond the limit may be left out.
-pub limit-twice : {trials : List (List ℕ)} {u limit : List ℕ} → Limits trials u limit → ((j : ℕ) → j < length trials → length (getD trials j []) ≤ length u) → (t : List ℕ) → ((a : ℕ) → getD t a 0 ≤ 1048576) → dominates (join u t) limit ≡ false → Twice (kept (λ p. dominates p limit) (map (join u) trials)) (join u t)
+pub limit-twice : {trials : List (List ℕ)} {u limit : List ℕ} → Limits trials u limit → ((j : ℕ) → j < length trials → length (getD trials j []) ≤ length u) → (t : List ℕ) → ((a : ℕ) → getD t a 0 ≤ 1048576) → dominates (join u t) limit ≡ false → Twice (passing (λ p. dominates p limit) (map (join u) trials)) (join u t)
 unfolding Twice
 limit-twice {trials} {u} {limit} h long t small e c d =
     let on : Beyond t limit = beyond t limit (sym (corner-within u t limit (h .above)) ∙ e) in

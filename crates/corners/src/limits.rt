@@ -9,8 +9,8 @@ ghost use Prim.Native.Nat.{_-_, _≤_};
 ghost use lib.ListN.{length, take, drop, replicate};
 ghost use Rattle.slices.specs.Choices.{both};
 ghost use Rattle.hypervolume.specs.Cells.{holds};
-ghost use Rattle.sweep.specs.Points.{points, Small};
-ghost use Rattle.corners.specs.Limits.{axesWithin, offer, twoWith, Alike, Limits, Collecting, Collected, Spreading, spread};
+ghost use Rattle.sweep.specs.Points.{zip-points, Small};
+ghost use Rattle.corners.specs.Limits.{axes-within, offer, two-with, SameLength, Limits, Collecting, Collected, Spreading, spread};
 
 // The two least of the numbers passed.
 pub struct Two {
@@ -21,7 +21,7 @@ pub struct Two {
 impl Two {
     // The two least with one more number.
     pub fn with(self, n: u64) -> Two
-        ensures { λ r. ⌜ r ≡ twoWith self n ⌝ }
+        ensures { λ r. ⌜ r ≡ two-with self n ⌝ }
     {
         if self.second <= n {
             self
@@ -48,7 +48,7 @@ fn at_most(a: u64, b: u64) -> u64
 
 // On how many of the axes a point is at most p.
 fn axes(x: u64, y: u64, z: u64, p: [u64; 3]) -> u64
-    ensures { λ r. ⌜ r ≡ axesWithin x y z p ⌝ }
+    ensures { λ r. ⌜ r ≡ axes-within x y z p ⌝ }
 {
     at_most(x, p[0]) + at_most(y, p[1]) + at_most(z, p[2])
 }
@@ -71,8 +71,8 @@ fn offered(n: u64, a: u64, b: u64, ua: u64, ub: u64) -> u64
 // within the limits so far and at most u on two axes can lower one, that is, a point that passes five of six tests. The
 // points ascend on z, so past the limit on z none does.
 pub fn limits(xs: &[u64], ys: &[u64], zs: &[u64], u: Point) -> [u64; 3]
-    requires { ⌜ Alike (now xs) (now ys) (now zs) × Small (u .at) ⌝ }
-    ensures { λ r. ⌜ Limits (points (now (xs .entry)) (now (ys .entry)) (now (zs .entry))) (u .at) r ⌝ }
+    requires { ⌜ SameLength (now xs) (now ys) (now zs) × Small (u .at) ⌝ }
+    ensures { λ r. ⌜ Limits (zip-points (now (xs .entry)) (now (ys .entry)) (now (zs .entry))) (u .at) r ⌝ }
 {
     let ux = u.at[0] as u64;
     let uy = u.at[1] as u64;

@@ -8,7 +8,7 @@ use native.Mathlib.Omega.{arith}
 use lib.ListN.{length, take, getD}
 use lib.Seq.{append-snoc}
 use Rattle.hypervolume.specs.Cells.{holds, dominates}
-use Rattle.sweep.specs.Line.{tally, spot, xOf, yOf, over, low, FlagRight, Flagged}
+use Rattle.sweep.specs.Line.{tally, spot, x-of, y-of, over, low, FlagRight, Flagged}
 use Rattle.sweep.proofs.Tallies.{tally-append}
 use Rattle.sweep.proofs.Columns.{low-more}
 
@@ -45,7 +45,7 @@ fewer-more {before} {other} h w =
     go i j l (no m) = omega (arith, over-more other w (i ∷ j ∷ []), over-more before w (i ∷ j ∷ []))
 
 -- two entries of one point tell the same
-pub fewer-same : (before : List ℕ) (v w : ℕ) → xOf v ≡ xOf w → yOf v ≡ yOf w → Fewer (before ++ (w ∷ [])) (before ++ (v ∷ []))
+pub fewer-same : (before : List ℕ) (v w : ℕ) → x-of v ≡ x-of w → y-of v ≡ y-of w → Fewer (before ++ (w ∷ [])) (before ++ (v ∷ []))
 fewer-same before v w e f =
     record {
       free = λ y g j l. low-more before v j ∙ rw f (sym (low-more before w j) ∙ g j l);
@@ -56,7 +56,7 @@ fewer-same before v w e f =
     }
 
 pub flag-fewer : {before other : List ℕ} → Fewer before other → {w : ℕ} → FlagRight before w → FlagRight other w
-flag-fewer h {w} f = record { clear = λ e. h .free (yOf w) (f .clear e); set = λ e i j d. h .some i j (f .set e i j d) }
+flag-fewer h {w} f = record { clear = λ e. h .free (y-of w) (f .clear e); set = λ e i j d. h .some i j (f .set e i j d) }
 
 pub flagged-fewer : (before other line : List ℕ) → Fewer before other → Flagged before line → Flagged other line
 unfolding Flagged

@@ -10,7 +10,7 @@ use lib.Dec.{leb}
 use lib.ListN.{length, getD}
 use Rattle.hypervolume.specs.Cells.{holds}
 use Rattle.hypervolume.proofs.Tests.{Compared, below, above, compared, holds-le-one}
-use Rattle.sweep.specs.Line.{xOf, Rising, Between, Ranked}
+use Rattle.sweep.specs.Line.{x-of, Rising, Between, Ranked}
 
 -- What a line begins with at the least.
 pub rising-lower : (x y : ℕ) (line : List ℕ) → y ≤ x → Rising x line → Rising y line
@@ -18,51 +18,51 @@ unfolding Rising
 rising-lower x y [] l h = tt
 rising-lower x y (w ∷ line) l h = (le-trans l (h .0), h .1)
 
-pub rising-pair : (x : ℕ) (line : List ℕ) → Rising x line → (a b : ℕ) → a ≤ b → b < length line → xOf (getD line a 0) ≤ xOf (getD line b 0)
+pub rising-pair : (x : ℕ) (line : List ℕ) → Rising x line → (a b : ℕ) → a ≤ b → b < length line → x-of (getD line a 0) ≤ x-of (getD line b 0)
 unfolding Rising
 rising-pair x [] h a b l m = absurd (let no′ : ⊥ = omega arith in no′)
 rising-pair x (w ∷ line) h zero zero l m = omega arith
-rising-pair x (w ∷ line) h zero (suc b) l m = from (xOf w) line (h .1) b (omega arith)
+rising-pair x (w ∷ line) h zero (suc b) l m = from (x-of w) line (h .1) b (omega arith)
   where
-    from : (x : ℕ) (line : List ℕ) → Rising x line → (b : ℕ) → b < length line → x ≤ xOf (getD line b 0)
+    from : (x : ℕ) (line : List ℕ) → Rising x line → (b : ℕ) → b < length line → x ≤ x-of (getD line b 0)
     from x [] h b m = absurd (let no′ : ⊥ = omega arith in no′)
     from x (w ∷ line) h zero m = h .0
-    from x (w ∷ line) h (suc b) m = le-trans (h .0) (from (xOf w) line (h .1) b (omega arith))
+    from x (w ∷ line) h (suc b) m = le-trans (h .0) (from (x-of w) line (h .1) b (omega arith))
 rising-pair x (w ∷ line) h (suc a) zero l m = absurd (let no′ : ⊥ = omega arith in no′)
-rising-pair x (w ∷ line) h (suc a) (suc b) l m = rising-pair (xOf w) line (h .1) a b (omega arith) (omega arith)
+rising-pair x (w ∷ line) h (suc a) (suc b) l m = rising-pair (x-of w) line (h .1) a b (omega arith) (omega arith)
 
 -- Two lines, one behind the other.
 pub rising-front : (x : ℕ) (s t : List ℕ) → Rising x (s ++ t) → Rising x s
 unfolding Rising
 rising-front x [] t h = tt
-rising-front x (w ∷ s) t h = (h .0, rising-front (xOf w) s t (h .1))
+rising-front x (w ∷ s) t h = (h .0, rising-front (x-of w) s t (h .1))
 
 pub rising-back : (x : ℕ) (s t : List ℕ) → Rising x (s ++ t) → Rising 0 t
 unfolding Rising
 rising-back x [] t h = rising-lower x 0 t (omega arith) h
-rising-back x (w ∷ s) t h = rising-back (xOf w) s t (h .1)
+rising-back x (w ∷ s) t h = rising-back (x-of w) s t (h .1)
 
-pub rising-from : (x y : ℕ) (line : List ℕ) → Rising x line → ((k : ℕ) → k < length line → y ≤ xOf (getD line k 0)) → Rising y line
+pub rising-from : (x y : ℕ) (line : List ℕ) → Rising x line → ((k : ℕ) → k < length line → y ≤ x-of (getD line k 0)) → Rising y line
 unfolding Rising
 rising-from x y [] h l = tt
 rising-from x y (w ∷ line) h l = (l 0 (omega arith), h .1)
 
-pub rising-join : (x y : ℕ) (s t : List ℕ) → x ≤ y → Rising x s → ((k : ℕ) → k < length s → xOf (getD s k 0) ≤ y) → Rising y t → Rising x (s ++ t)
+pub rising-join : (x y : ℕ) (s t : List ℕ) → x ≤ y → Rising x s → ((k : ℕ) → k < length s → x-of (getD s k 0) ≤ y) → Rising y t → Rising x (s ++ t)
 unfolding Rising
 rising-join x y [] t l h m g = rising-lower y x t l g
 rising-join x y (w ∷ s) t l h m g =
-    (h .0, rising-join (xOf w) y s t (m 0 (omega arith)) (h .1) (λ k n. m (suc k) (omega arith)) g)
+    (h .0, rising-join (x-of w) y s t (m 0 (omega arith)) (h .1) (λ k n. m (suc k) (omega arith)) g)
 
 -- One entry left out, and one put for another at the same x.
 pub rising-less : (x : ℕ) (s : List ℕ) (w : ℕ) (t : List ℕ) → Rising x (s ++ (w ∷ t)) → Rising x (s ++ t)
 unfolding Rising
-rising-less x [] w t h = rising-lower (xOf w) x t (h .0) (h .1)
-rising-less x (v ∷ s) w t h = (h .0, rising-less (xOf v) s w t (h .1))
+rising-less x [] w t h = rising-lower (x-of w) x t (h .0) (h .1)
+rising-less x (v ∷ s) w t h = (h .0, rising-less (x-of v) s w t (h .1))
 
-pub rising-same : (x : ℕ) (s : List ℕ) (v w : ℕ) (t : List ℕ) → xOf v ≡ xOf w → Rising x (s ++ (w ∷ t)) → Rising x (s ++ (v ∷ t))
+pub rising-same : (x : ℕ) (s : List ℕ) (v w : ℕ) (t : List ℕ) → x-of v ≡ x-of w → Rising x (s ++ (w ∷ t)) → Rising x (s ++ (v ∷ t))
 unfolding Rising
 rising-same x [] v w t e h = rw e h
-rising-same x (u ∷ s) v w t e h = (h .0, rising-same (xOf u) s v w t e (h .1))
+rising-same x (u ∷ s) v w t e h = (h .0, rising-same (x-of u) s v w t e (h .1))
 
 -- The search for the place of a point at x.
 pub between-all : (line : List ℕ) (x : ℕ) → Rising 0 line → Between line x 0 (length line)
@@ -74,21 +74,21 @@ between-all line x h =
       after = λ k l m. absurd (let no′ : ⊥ = omega arith in no′);
     }
 
-pub bit-small : (b : Bool) {n : ℕ} → n ≡ holds b → n ≤ 1
-bit-small b e = omega (arith, holds-le-one b)
+pub holds-small : (b : Bool) {n : ℕ} → n ≡ holds b → n ≤ 1
+holds-small b e = omega (arith, holds-le-one b)
 
 -- An entry that is at most x tells of those before it, one beyond x of those behind it.
 module _ {line : List ℕ} {x low size : ℕ} (h : Between line x low size) where
-  below-entry : (a : ℕ) → a < length line → xOf (getD line a 0) ≤ x → (k : ℕ) → k ≤ a → xOf (getD line k 0) ≤ x
+  below-entry : (a : ℕ) → a < length line → x-of (getD line a 0) ≤ x → (k : ℕ) → k ≤ a → x-of (getD line k 0) ≤ x
   below-entry a l m k n = le-trans (rising-pair 0 line (h .rising) k a n l) m
 
-  beyond-entry : (a : ℕ) → x < xOf (getD line a 0) → (k : ℕ) → a ≤ k → k < length line → x < xOf (getD line k 0)
+  beyond-entry : (a : ℕ) → x < x-of (getD line a 0) → (k : ℕ) → a ≤ k → k < length line → x < x-of (getD line k 0)
   beyond-entry a m k n l =
-      let up : xOf (getD line a 0) ≤ xOf (getD line k 0) = rising-pair 0 line (h .rising) a k n l in
+      let up : x-of (getD line a 0) ≤ x-of (getD line k 0) = rising-pair 0 line (h .rising) a k n l in
       omega arith
 
   -- The search moves on to low + m, where the entry before it is at most x and one not too far behind is beyond x.
-  moved : (m left : ℕ) → m + left ≤ size → (0 < m → xOf (getD line (low + m - 1) 0) ≤ x) → (m + left < size → (a : ℕ) → low + m + left ≤ a → a < length line → x < xOf (getD line a 0)) → Between line x (low + m) left
+  moved : (m left : ℕ) → m + left ≤ size → (0 < m → x-of (getD line (low + m - 1) 0) ≤ x) → (m + left < size → (a : ℕ) → low + m + left ≤ a → a < length line → x < x-of (getD line a 0)) → Between line x (low + m) left
   moved m left fits under over =
       record {
         rising = h .rising;
@@ -97,25 +97,25 @@ module _ {line : List ℕ} {x low size : ℕ} (h : Between line x low size) wher
         after = λ k l n. after k l n (decLe size (m + left));
       }
     where
-      before : (k : ℕ) → k < low + m → Dec (k < low) → xOf (getD line k 0) ≤ x
+      before : (k : ℕ) → k < low + m → Dec (k < low) → x-of (getD line k 0) ≤ x
       before k l (yes a) = h .before k a
       before k l (no a) =
           below-entry (low + m - 1) (omega (arith, h .within)) (under (omega arith)) k (omega arith)
 
-      after : (k : ℕ) → low + m + left ≤ k → k < length line → Dec (size ≤ m + left) → x < xOf (getD line k 0)
+      after : (k : ℕ) → low + m + left ≤ k → k < length line → Dec (size ≤ m + left) → x < x-of (getD line k 0)
       after k l n (yes a) = h .after k (omega arith) n
       after k l n (no a) = over (omega arith) k l n
 
 -- Three entries asked.
 module _ {line : List ℕ} {x low size : ℕ} (h : Between line x low size) (l : 2 < size) {part : ℕ} (e : part ≡ (size + 1) / 4) where
   -- those that lie in order
-  first-second : xOf (getD line (low + part - 1) 0) ≤ xOf (getD line (low + 2 * part - 1) 0)
+  first-second : x-of (getD line (low + part - 1) 0) ≤ x-of (getD line (low + 2 * part - 1) 0)
   first-second = rising-pair 0 line (h .rising) (low + part - 1) (low + 2 * part - 1) (omega arith) (omega (arith, h .within))
 
-  second-third : xOf (getD line (low + 2 * part - 1) 0) ≤ xOf (getD line (low + 3 * part - 1) 0)
+  second-third : x-of (getD line (low + 2 * part - 1) 0) ≤ x-of (getD line (low + 3 * part - 1) 0)
   second-third = rising-pair 0 line (h .rising) (low + 2 * part - 1) (low + 3 * part - 1) (omega arith) (omega (arith, h .within))
 
-  step : (a b c : Bool) → Compared (xOf (getD line (low + part - 1) 0)) x a → Compared (xOf (getD line (low + 2 * part - 1) 0)) x b → Compared (xOf (getD line (low + 3 * part - 1) 0)) x c → Between line x (low + part * (holds a + holds b + holds c)) (size - 3 * part)
+  step : (a b c : Bool) → Compared (x-of (getD line (low + part - 1) 0)) x a → Compared (x-of (getD line (low + 2 * part - 1) 0)) x b → Compared (x-of (getD line (low + 3 * part - 1) 0)) x c → Between line x (low + part * (holds a + holds b + holds c)) (size - 3 * part)
   unfolding holds
   step true true true (below p) (below q) (below r) =
       let on : part * 3 ≡ 3 * part = omega arith in
@@ -133,40 +133,40 @@ module _ {line : List ℕ} {x low size : ℕ} (h : Between line x low size) (l :
   step false true c (above p) (below q) r = absurd (let no′ : ⊥ = omega (arith, first-second) in no′)
   step false false true (above p) (above q) (below r) = absurd (let no′ : ⊥ = omega (arith, second-third) in no′)
 
-  module _ {first second third : ℕ} (f : first ≡ holds (leb (xOf (getD line (low + part - 1) 0)) x)) (g : second ≡ holds (leb (xOf (getD line (low + 2 * part - 1) 0)) x)) (k : third ≡ holds (leb (xOf (getD line (low + 3 * part - 1) 0)) x)) where
+  module _ {first second third : ℕ} (f : first ≡ holds (leb (x-of (getD line (low + part - 1) 0)) x)) (g : second ≡ holds (leb (x-of (getD line (low + 2 * part - 1) 0)) x)) (k : third ≡ holds (leb (x-of (getD line (low + 3 * part - 1) 0)) x)) where
     pub between-more : Between line x (low + part * (first + second + third)) (size - 3 * part)
     between-more =
         rw (f, g, k)
-        (step (leb (xOf (getD line (low + part - 1) 0)) x) (leb (xOf (getD line (low + 2 * part - 1) 0)) x) (leb (xOf (getD line (low + 3 * part - 1) 0)) x)
-        (compared (xOf (getD line (low + part - 1) 0)) x)
-        (compared (xOf (getD line (low + 2 * part - 1) 0)) x)
-        (compared (xOf (getD line (low + 3 * part - 1) 0)) x))
+        (step (leb (x-of (getD line (low + part - 1) 0)) x) (leb (x-of (getD line (low + 2 * part - 1) 0)) x) (leb (x-of (getD line (low + 3 * part - 1) 0)) x)
+        (compared (x-of (getD line (low + part - 1) 0)) x)
+        (compared (x-of (getD line (low + 2 * part - 1) 0)) x)
+        (compared (x-of (getD line (low + 3 * part - 1) 0)) x))
 
     pub between-fits : part * (first + second + third) ≤ length line
     between-fits = omega (arith, between-more .within)
 
 -- One or two entries left.
-pub between-one : {line : List ℕ} {x low size bit : ℕ} → Between line x low size → size ≡ 1 → bit ≡ holds (leb (xOf (getD line low 0)) x) → Between line x (low + bit) 0
+pub between-one : {line : List ℕ} {x low size bit : ℕ} → Between line x low size → size ≡ 1 → bit ≡ holds (leb (x-of (getD line low 0)) x) → Between line x (low + bit) 0
 unfolding holds
-between-one {line} {x} {low} {size} {bit} h e f = rw f (go (leb (xOf (getD line low 0)) x) (compared (xOf (getD line low 0)) x))
+between-one {line} {x} {low} {size} {bit} h e f = rw f (go (leb (x-of (getD line low 0)) x) (compared (x-of (getD line low 0)) x))
   where
-    go : (b : Bool) → Compared (xOf (getD line low 0)) x b → Between line x (low + holds b) 0
+    go : (b : Bool) → Compared (x-of (getD line low 0)) x b → Between line x (low + holds b) 0
     go true (below p) =
         let here : low + 1 - 1 ≡ low = omega arith in
         moved h 1 0 (omega arith) (λ z. rw here p) (λ z. absurd (let no′ : ⊥ = omega arith in no′))
     go false (above p) =
         moved h 0 0 (omega arith) (λ z. absurd (let no′ : ⊥ = omega arith in no′)) (λ z a m n. beyond-entry h low p a (omega arith) n)
 
-pub between-two : {line : List ℕ} {x low size first second : ℕ} → Between line x low size → size ≡ 2 → first ≡ holds (leb (xOf (getD line low 0)) x) → second ≡ holds (leb (xOf (getD line (low + 1) 0)) x) → Between line x (low + first + second) 0
+pub between-two : {line : List ℕ} {x low size first second : ℕ} → Between line x low size → size ≡ 2 → first ≡ holds (leb (x-of (getD line low 0)) x) → second ≡ holds (leb (x-of (getD line (low + 1) 0)) x) → Between line x (low + first + second) 0
 unfolding holds
 between-two {line} {x} {low} {size} {first} {second} h e f g =
     rw (f, g)
-    (go (leb (xOf (getD line low 0)) x) (leb (xOf (getD line (low + 1) 0)) x) (compared (xOf (getD line low 0)) x) (compared (xOf (getD line (low + 1) 0)) x))
+    (go (leb (x-of (getD line low 0)) x) (leb (x-of (getD line (low + 1) 0)) x) (compared (x-of (getD line low 0)) x) (compared (x-of (getD line (low + 1) 0)) x))
   where
-    order : xOf (getD line low 0) ≤ xOf (getD line (low + 1) 0)
+    order : x-of (getD line low 0) ≤ x-of (getD line (low + 1) 0)
     order = rising-pair 0 line (h .rising) low (low + 1) (omega arith) (omega (arith, h .within))
 
-    go : (a b : Bool) → Compared (xOf (getD line low 0)) x a → Compared (xOf (getD line (low + 1) 0)) x b → Between line x (low + holds a + holds b) 0
+    go : (a b : Bool) → Compared (x-of (getD line low 0)) x a → Compared (x-of (getD line (low + 1) 0)) x b → Between line x (low + holds a + holds b) 0
     go true true (below p) (below q) =
         let here : low + 2 - 1 ≡ low + 1 = omega arith in
         let on : low + 1 + 1 ≡ low + 2 = omega arith in
@@ -189,10 +189,10 @@ between-none {line} {x} {low} {size} h l =
     }
 
 -- The test by arithmetic: the difference, raised by 2^32, reaches 2^32 where the entry is at most x.
-pub reaches-bit : (w x : ℕ) → x ≤ 1048576 → w < 2 ^ 64 → (x + 4294967296 - w / 4294967296) / 4294967296 ≡ holds (leb (xOf w) x)
+pub reaches-bit : (w x : ℕ) → x ≤ 1048576 → w < 2 ^ 64 → (x + 4294967296 - w / 4294967296) / 4294967296 ≡ holds (leb (x-of w) x)
 unfolding holds
-reaches-bit w x l m = go (leb (xOf w) x) (compared (xOf w) x)
+reaches-bit w x l m = go (leb (x-of w) x) (compared (x-of w) x)
   where
-    go : (b : Bool) → Compared (xOf w) x b → (x + 4294967296 - w / 4294967296) / 4294967296 ≡ holds b
+    go : (b : Bool) → Compared (x-of w) x b → (x + 4294967296 - w / 4294967296) / 4294967296 ≡ holds b
     go true (below n) = omega arith
     go false (above n) = omega arith

@@ -6,23 +6,23 @@ use native.Mathlib.Decide.{decLe, ℕ-discrete}
 use native.Mathlib.Omega.{arith}
 use lib.ListN.{length, take, drop, getD, set, length-append, length-take, length-drop, length-set, take-append-drop, List·getD-append}
 use lib.Seq.{length-take-le, getD-take, getD-drop, getD-at, getD-append-add, getD-set-same, getD-set-other, drop-set-lt, take-take, ext-getD}
-use Rattle.sweep.specs.Line.{insertAt}
+use Rattle.sweep.specs.Line.{insert-at}
 use Rattle.sweep.specs.Entries.{Placed, Closed}
 
 -- What stands where in a list with one more entry.
 module _ (at w : ℕ) (l : List ℕ) (fits : at ≤ length l) where
-  pub insert-length : length (insertAt at w l) ≡ suc (length l)
+  pub insert-length : length (insert-at at w l) ≡ suc (length l)
   insert-length = simp (length-append, length-take, length-drop) (omega arith)
 
-  pub insert-before : (k : ℕ) → k < at → getD (insertAt at w l) k 0 ≡ getD l k 0
+  pub insert-before : (k : ℕ) → k < at → getD (insert-at at w l) k 0 ≡ getD l k 0
   insert-before k p =
       List·getD-append (take at l) (w ∷ drop at l) 0 k (let q : k < length (take at l) = omega (arith, length-take at l) in q)
       ∙ getD-take at l k 0 p
 
-  pub insert-here : getD (insertAt at w l) at 0 ≡ w
+  pub insert-here : getD (insert-at at w l) at 0 ≡ w
   insert-here = getD-at (take at l) w (drop at l) 0 at (length-take-le at l fits)
 
-  pub insert-after : (k : ℕ) → at ≤ k → getD (insertAt at w l) (suc k) 0 ≡ getD l k 0
+  pub insert-after : (k : ℕ) → at ≤ k → getD (insert-at at w l) (suc k) 0 ≡ getD l k 0
   insert-after k p =
       let split : suc k ≡ length (take at l) + suc (k - at) = omega (arith, length-take-le at l fits) in
       let back : at + (k - at) ≡ k = omega arith in
@@ -92,7 +92,7 @@ shifted-end {old} {m} {at} {line} {k} entry h l =
     taken : length (take (m + 1) (set line at entry)) ≡ m + 1
     taken = length-take-le (m + 1) (set line at entry) (omega (arith, length-set line at entry, h .alike, h .room))
 
-    cases : (j : ℕ) → j < m + 1 → Dec (suc j ≤ at) → Dec (j ≤ at) → getD (set line at entry) j 0 ≡ getD (insertAt at entry (take m old)) j 0
+    cases : (j : ℕ) → j < m + 1 → Dec (suc j ≤ at) → Dec (j ≤ at) → getD (set line at entry) j 0 ≡ getD (insert-at at entry (take m old)) j 0
     cases j n (yes a) b =
         getD-set-other line at j entry 0 (λ q. omega arith)
         ∙ h .kept j (omega (arith, same))
@@ -108,9 +108,9 @@ shifted-end {old} {m} {at} {line} {k} entry h l =
         ∙ h .moved j (omega (arith, same)) (omega arith)
         ∙ sym (insert-after at entry (take m old) fits j (omega arith) ∙ getD-take m old j 0 (omega arith))
 
-    placed : take (m + 1) (set line at entry) ≡ insertAt at entry (take m old)
+    placed : take (m + 1) (set line at entry) ≡ insert-at at entry (take m old)
     placed =
-        ext-getD 0 (take (m + 1) (set line at entry)) (insertAt at entry (take m old))
+        ext-getD 0 (take (m + 1) (set line at entry)) (insert-at at entry (take m old))
         (omega (arith, taken, insert-length at entry (take m old) fits, first-long))
         (λ j n.
         let inside : j < m + 1 = omega (arith, taken) in

@@ -12,7 +12,7 @@ use borrow.Author.Tests.{le-leb, lt-leb}
 use Rattle.slices.specs.Choices.{both}
 use Rattle.hypervolume.specs.Cells.{holds, dominates}
 use Rattle.slices.proofs.Choices.{both-comm}
-use Rattle.sweep.specs.Line.{tally, spot, xOf, yOf}
+use Rattle.sweep.specs.Line.{tally, spot, x-of, y-of}
 
 pub tally-append : (test : ℕ → Bool) (s t : List ℕ) → tally test (s ++ t) ≡ tally test s + tally test t
 unfolding tally
@@ -47,16 +47,16 @@ tally-parts f g h (w ∷ line) p =
 
 -- At column i: the entries of a kind q that dominate the cell in row j. Where the first k entries have x at most i, those of
 -- them that are at most j on y are among these; where the others lie beyond i, these are all.
-module _ (q : ℕ → Bool) (line : List ℕ) (k i j : ℕ) (reach : (a : ℕ) → a < k → a < length line → xOf (getD line a 0) ≤ i) where
+module _ (q : ℕ → Bool) (line : List ℕ) (k i j : ℕ) (reach : (a : ℕ) → a < k → a < length line → x-of (getD line a 0) ≤ i) where
   here : ℕ → Bool
   here w = both (q w) (dominates (spot w) (i ∷ j ∷ []))
 
   low : ℕ → Bool
-  low w = both (q w) (leb (yOf w) j)
+  low w = both (q w) (leb (y-of w) j)
 
-  reached : (w : ℕ) → xOf w ≤ i → here w ≡ low w
+  reached : (w : ℕ) → x-of w ≤ i → here w ≡ low w
   unfolding here low dominates both
-  reached w l = rw (le-leb (xOf w) i l, both-comm (leb (yOf w) j) true)
+  reached w l = rw (le-leb (x-of w) i l, both-comm (leb (y-of w) j) true)
 
   first-part : (a : ℕ) → a < length (take k line) → here (getD (take k line) a 0) ≡ low (getD (take k line) a 0)
   first-part a l =
@@ -70,14 +70,14 @@ module _ (q : ℕ → Bool) (line : List ℕ) (k i j : ℕ) (reach : (a : ℕ) �
       ∙ tally-append here (take k line) (drop k line)
       ∙ ap (λ n. n + tally here (drop k line)) (tally-ext here low (take k line) first-part)
 
-  pub column-least : tally (λ w. both (q w) (leb (yOf w) j)) (take k line) ≤ tally (λ w. both (q w) (dominates (spot w) (i ∷ j ∷ []))) line
+  pub column-least : tally (λ w. both (q w) (leb (y-of w) j)) (take k line) ≤ tally (λ w. both (q w) (dominates (spot w) (i ∷ j ∷ []))) line
   unfolding here low
   column-least = omega (arith, split)
 
-  module _ (miss : (a : ℕ) → k ≤ a → a < length line → i < xOf (getD line a 0)) where
-    missed : (w : ℕ) → i < xOf w → here w ≡ false
+  module _ (miss : (a : ℕ) → k ≤ a → a < length line → i < x-of (getD line a 0)) where
+    missed : (w : ℕ) → i < x-of w → here w ≡ false
     unfolding here dominates both
-    missed w l = rw (lt-leb (xOf w) i l, both-comm (q w) false)
+    missed w l = rw (lt-leb (x-of w) i l, both-comm (q w) false)
 
     second-part : (a : ℕ) → a < length (drop k line) → here (getD (drop k line) a 0) ≡ false
     second-part a l =
@@ -85,6 +85,6 @@ module _ (q : ℕ → Bool) (line : List ℕ) (k i j : ℕ) (reach : (a : ℕ) �
         let o : k + a < length line = omega (arith, length-drop k line) in
         rw (getD-drop k line a 0) (missed (getD line (k + a) 0) (miss (k + a) m o))
 
-    pub column-tally : tally (λ w. both (q w) (dominates (spot w) (i ∷ j ∷ []))) line ≡ tally (λ w. both (q w) (leb (yOf w) j)) (take k line)
+    pub column-tally : tally (λ w. both (q w) (dominates (spot w) (i ∷ j ∷ []))) line ≡ tally (λ w. both (q w) (leb (y-of w) j)) (take k line)
     unfolding here low
     column-tally = split ∙ rw (tally-none here (drop k line) second-part) (add-zero (tally low (take k line)))

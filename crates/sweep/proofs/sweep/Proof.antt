@@ -169,7 +169,7 @@ loop-again c =
     progress-more (here .before .loop .inv) (here .loop-test .taken) (edge .edge .ensures) (crossed .strips .ensures) refl
     (crossed .strips .kept .1 .1 .1 .1 .1 .1 .1 .1 .0)
     (entry .entry .ensures)
-    (entered .enter .ensures _ (seen .look-back .ensures .standing))
+    (entered .enter .ensures _ (seen .look-back .ensures .state))
     (entered .enter .kept .0)
 
 same-length : tie.Need-same-length Inv-loop μ-loop
