@@ -19,8 +19,7 @@ use Rattle.hypervolume.proofs.Dominance.{cover-append}
 use Rattle.corners.specs.declared.limits.Two.{Two}
 use Rattle.sweep.specs.Points.{zip-points, Small}
 use Rattle.corners.specs.Limits.{pickTwo, two-with, axes-within, offer, SameLength, Limits}
-use Rattle.sweep.proofs.Coordinates.{points-length, points-at}
-use Rattle.sweep.proofs.Sweeps.{three}
+use Rattle.sweep.proofs.Coordinates.{points-length, points-at, three}
 
 -- A limit that is raised loses no point.
 raised-dominates : (p u : List ℕ) (a m n : ℕ) → m ≤ n → dominates p (set u a m) ≡ true → dominates p (set u a n) ≡ true
@@ -233,9 +232,6 @@ bounding-end {xs} {ys} {zs} {i = i} u e h =
     rw (three u e, take-append-drop i (zip-points xs ys zs)) at (limits-later (drop i (zip-points xs ys zs)) (h .limits))
 
 -- Adding up the tests of the three axes.
-pub holds-small : (t : Bool) {n : ℕ} → n ≡ holds t → n ≤ 1
-holds-small t e = omega (arith, holds-le-one t)
-
 pub axes-few : (x y z : ℕ) (p : List ℕ) {n : ℕ} → n ≡ axes-within x y z p → n ≤ 3
 unfolding axes-within
 axes-few x y z p e =

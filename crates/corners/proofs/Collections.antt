@@ -15,9 +15,7 @@ use Rattle.hypervolume.specs.Cells.{dominates, join}
 use Rattle.slices.proofs.Choices.{both-comm}
 use Rattle.sweep.specs.Points.{zip-points}
 use Rattle.corners.specs.Limits.{SameLength, pick, passing, corners, Collecting, CornersOn, Stands, Collected}
-use Rattle.sweep.proofs.Coordinates.{points-length, points-at}
-use Rattle.sweep.proofs.Lists.{ascending-at}
-use Rattle.sweep.proofs.Sweeps.{three}
+use Rattle.sweep.proofs.Coordinates.{points-length, points-at, ascending-at, three}
 use Rattle.corners.proofs.Keeping.{corner-within}
 
 -- One more point.

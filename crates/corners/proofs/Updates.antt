@@ -14,9 +14,8 @@ use Rattle.hypervolume.specs.Counts.{total, contribution, gain, contributions, 
 use Rattle.hypervolume.proofs.Counting.{joint-corner, gain-edges, Twice}
 use Rattle.sweep.specs.Points.{zip-points, Small, Ascending, Ready}
 use Rattle.corners.specs.Limits.{SameLength, Limits, passing, corners, CornersOn, Stands, Collected, Spreading, spread}
-use Rattle.sweep.proofs.Lists.{ascending-at, getD-mapped, front-then}
-use Rattle.sweep.proofs.Coordinates.{points-length, points-at}
-use Rattle.sweep.proofs.Sweeps.{three}
+use Rattle.sweep.proofs.Coordinates.{ascending-at, points-length, points-at, three}
+use Rattle.sweep.proofs.Front.{getD-mapped, front-then}
 use Rattle.corners.proofs.Keeping.{passing-total, passing-contribution, failing-contribution, limit-twice}
 use Rattle.corners.proofs.Collections.{corners-length, corner-at}
 use Rattle.corners.proofs.Spreads.{Due, due-right, due-beyond, spread-length}

@@ -1,7 +1,7 @@
 // Which corners an update counts. A corner may be left out where two that stay are at most it on all axes, and on real
 // archives nearly all may: those beyond a limit on some axis.
 use hypervolume::Point;
-use sweep::larger;
+use hypervolume::number::larger;
 ghost use mathlib.Core.Path.{_≡_};
 ghost use mathlib.Core.List.{_++_};
 ghost use lib.Dec.{leb};

@@ -22,7 +22,7 @@ use Rattle.hypervolume.proofs.Counting.{count-none, SameCover, total-same, tota
 use Rattle.hypervolume.proofs.Axes.{FirstAtMost, gain-layers, joint-layers}
 use Rattle.sweep.specs.Line.{entry-of, x-of, y-of, index-of, spot, tally, over, over-by, gain-over, shared-with, Rising, Flagged, ValidLine, Alike}
 use Rattle.sweep.specs.Entries.{Below}
-use Rattle.sweep.proofs.Flags.{over-cons}
+use Rattle.sweep.proofs.Tally.{over-cons}
 
 -- The line counts as the trials do, seen along z, in the rows below ry, where two are as good as more.
 unfoldable pub LineCovers : ℕ → List ℕ → List (List ℕ) → Type 0
@@ -113,17 +113,6 @@ line-for-none ry =
       each = λ j l. absurd (let no′ : ⊥ = omega arith in no′);
       below = tt;
     }
-
-pub below-lift : (m n : ℕ) (line : List ℕ) → m ≤ n → Below m line → Below n line
-unfolding Below
-below-lift m n [] l b = tt
-below-lift m n (w ∷ line) l b = (omega (arith, b .0), below-lift m n line l (b .1))
-
-pub below-at : (n : ℕ) (line : List ℕ) → 0 < n → Below n line → (k : ℕ) → index-of (getD line k 0) < n
-unfolding Below
-below-at n [] l b k = l
-below-at n (w ∷ line) l b zero = b .0
-below-at n (w ∷ line) l b (suc k) = below-at n line l (b .1) k
 
 -- One more point: a line that counts as the old one with its entry.
 module _ {ry : ℕ} {trials : List (List ℕ)} {line : List ℕ} (h : LineFor ry trials line) (z x y : ℕ) (y-small : y ≤ 1048576) (few : length trials < 512) where

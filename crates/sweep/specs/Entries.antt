@@ -1,14 +1,9 @@
 -- Entering the next point in the line: the entries that it covers are flagged or left out, and its own entry put in.
 use Prim.Native.Nat.{ℕ, _+_, _-_, _≤_, _<_}
 use mathlib.Core.Path.{_≡_}
-use mathlib.Core.Bool.{Bool, true, false}
 use mathlib.Core.List.{List, _∷_, _++_, []}
 use lib.ListN.{length, take, drop, getD}
 use Rattle.sweep.specs.Line.{x-of, index-of, flag-of, Rising, Flagged, ValidLine, Ranked, AlikeAt, Alike, insert-at}
-
-abbrev pub pickEntry : Bool → ℕ → ℕ → ℕ
-pickEntry true v w = v
-pickEntry false v w = w
 
 -- Every entry is of a point of index below n.
 unfoldable pub Below : ℕ → List ℕ → Type 0

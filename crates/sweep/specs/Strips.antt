@@ -1,22 +1,18 @@
 -- One pass over the line, for the next point p: strips of columns that are alike.
 use Prim.Native.Nat.{ℕ, _+_, _-_, _*_, _≤_, _<_, max}
 use mathlib.Core.Path.{_≡_}
-use mathlib.Core.Bool.{Bool, true, false}
 use mathlib.Core.List.{List, _∷_, []}
 use lib.Dec.{ltb}
 use lib.ListN.{length, take, getD, set}
+use Rattle.slices.specs.Choices.{pick}
 use Rattle.sweep.specs.declared.column.Column.{Column}
 use Rattle.sweep.specs.Line.{x-of, index-of, low, low-by, gain-over, shared-with, Rising}
-
-abbrev pub pickColumn : Bool → Column → Column → Column
-pickColumn true a b = a
-pickColumn false a b = b
 
 -- The column with one more point passed, of the index `owner`, at y.
 unfoldable pub column-with : Column → ℕ → ℕ → Column
 column-with c y owner =
-    pickColumn (ltb y (c .least)) (record { least = y; owner = owner; second = c .least })
-    (pickColumn (ltb y (c .second)) (record { least = c .least; owner = c .owner; second = y }) c)
+    pick (ltb y (c .least)) (record { least = y; owner = owner; second = c .least })
+    (pick (ltb y (c .second)) (record { least = c .least; owner = c .owner; second = y }) c)
 
 -- What a column's state says of the rows below ry: none of the points passed dominates the cells below `least`, the
 -- owner alone does from there up to `second`, two or more do above.

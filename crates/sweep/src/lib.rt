@@ -9,10 +9,7 @@ ghost use Rattle.sweep.specs.Points.{zip-points, Ready};
 
 mod column;
 mod line;
-mod number;
 mod strips;
-
-pub use number::larger;
 
 // The total of the points, and in `out` the contribution of each. After i points, `volume` and `out` are those of these
 // points alone. No earlier point has a larger z, so in each layer that the next point reaches it meets the same

@@ -7,10 +7,11 @@ ghost use mathlib.Core.Path.{_≡_};
 ghost use Prim.Native.Nat.{ℕ, _+_, _≤_, _<_};
 ghost use lib.Dec.{leb};
 ghost use lib.ListN.{length, take};
+ghost use Rattle.slices.specs.Choices.{pick};
 ghost use Rattle.hypervolume.specs.Cells.{holds};
 ghost use Rattle.sweep.specs.Line.{entry-of, flagged, x-of, y-of, index-of, flag-of, Rising, Between, Ranked};
 ghost use Rattle.sweep.specs.Strips.{ColumnState};
-ghost use Rattle.sweep.specs.Entries.{pickEntry, ThinningLine, Walked, Placed, Closed, Entering, Entered};
+ghost use Rattle.sweep.specs.Entries.{ThinningLine, Walked, Placed, Closed, Entering, Entered};
 
 pub fn entry(x: u64, y: u64, index: usize) -> u64
     requires { ⌜ (x ≤ 1048576) × (y ≤ 1048576) × (index < 512) ⌝ }
@@ -52,7 +53,7 @@ pub fn set_flag(entry: u64) -> u64
 
 // The entry, with its flag set where the test holds.
 fn flag_where(test: bool, entry: u64) -> u64
-    ensures { λ r. ⌜ r ≡ pickEntry test (flagged entry) entry ⌝ }
+    ensures { λ r. ⌜ r ≡ pick test (flagged entry) entry ⌝ }
 {
     if test { set_flag(entry) } else { entry }
 }

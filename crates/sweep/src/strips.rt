@@ -11,9 +11,9 @@ use crate::line::flag_of;
 use crate::line::index_of;
 use crate::line::x_of;
 use crate::line::y_of;
-use crate::number::larger;
-use crate::number::less;
-use crate::number::smaller;
+use hypervolume::number::larger;
+use hypervolume::number::less;
+use hypervolume::number::smaller;
 
 // Whether no entry before this one changes the column.
 fn decides(entry: u64, column: Column) -> bool

@@ -4,7 +4,7 @@ use lib.ListN.{length}
 use lib.Seq.{length-take-le}
 use mathlib.Core.Path.{refl, sym}
 use native.Mathlib.Omega.{arith}
-use Rattle.sweep.proofs.Sweeps.{Progress, progress-none, progress-index, progress-rising, progress-at, progress-flags, progress-crossing, progress-own, progress-fits, progress-entering, progress-more, progress-end}
+use Rattle.sweep.proofs.SweepLaws.{Progress, progress-none, progress-index, progress-rising, progress-at, progress-flags, progress-crossing, progress-own, progress-fits, progress-entering, progress-more, progress-end}
 use borrow.Author.Needs.{needs}
 use Rattle.sweep.proofs.sweep.Statement.{statement}
 use Rattle.sweep.proofs.sweep.Tie as tie

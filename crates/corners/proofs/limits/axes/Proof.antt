@@ -2,7 +2,7 @@
 use Prim.Native.Nat.{_≤_}
 use native.Mathlib.Omega.{arith}
 use Rattle.corners.specs.Limits.{axes-within}
-use Rattle.corners.proofs.Bounds.{holds-small}
+use Rattle.hypervolume.proofs.Tests.{holds-small}
 use borrow.Author.Needs.{needs}
 use Rattle.corners.proofs.limits.axes.Statement.{statement}
 use Rattle.corners.proofs.limits.axes.Tie as tie

@@ -1,6 +1,6 @@
 -- `close` meets its contract. The invariant: the first i entries have moved.
 use Prim.Native.Nat.{_-_}
-use Rattle.sweep.proofs.Placings.{Closing, closing-none, closing-more, closing-end, closed-none}
+use Rattle.sweep.proofs.line.PlaceLaws.{Closing, closing-none, closing-more, closing-end, closed-none}
 use borrow.Author.Needs.{needs}
 use Rattle.sweep.proofs.line.close.Statement.{statement}
 use Rattle.sweep.proofs.line.close.Tie as tie

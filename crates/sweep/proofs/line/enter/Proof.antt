@@ -1,6 +1,6 @@
 -- `enter` meets its contract.
 use mathlib.Core.Path.{refl}
-use Rattle.sweep.proofs.Entrances.{entering-thinning, entered-not, entered-more, entered-room}
+use Rattle.sweep.proofs.line.EnterLaws.{entering-thinning, entered-not, entered-more, entered-room}
 use borrow.Author.Needs.{needs}
 use Rattle.sweep.proofs.line.enter.Statement.{statement}
 use Rattle.sweep.proofs.line.enter.Tie as tie

@@ -3,7 +3,8 @@ use Prim.Native.Nat.{_≤_}
 use mathlib.Core.Path.{refl}
 use native.Mathlib.Omega.{arith}
 use Rattle.sweep.specs.Line.{Between}
-use Rattle.sweep.proofs.Orders.{holds-small, between-all, between-more, between-fits}
+use Rattle.hypervolume.proofs.Tests.{holds-small}
+use Rattle.sweep.proofs.line.RankLaws.{between-all, between-more, between-fits}
 use borrow.Author.Needs.{needs}
 use Rattle.sweep.proofs.line.narrow.Statement.{statement}
 use Rattle.sweep.proofs.line.narrow.Tie as tie

@@ -1,6 +1,6 @@
 -- `place` meets its contract. The invariant: the entries from k on have moved up.
 use Prim.Native.Nat.{_-_}
-use Rattle.sweep.proofs.Placings.{Shifted, shifted-none, shifted-more, shifted-end}
+use Rattle.sweep.proofs.line.PlaceLaws.{Shifted, shifted-none, shifted-more, shifted-end}
 use borrow.Author.Needs.{needs}
 use Rattle.sweep.proofs.line.place.Statement.{statement}
 use Rattle.sweep.proofs.line.place.Tie as tie

@@ -1,7 +1,8 @@
 -- `rank` meets its contract: the entries that are left say the rest.
 use mathlib.Core.Path.{_≡_}
 use native.Mathlib.Omega.{arith}
-use Rattle.sweep.proofs.Orders.{holds-small, between-one, between-two, between-none}
+use Rattle.hypervolume.proofs.Tests.{holds-small}
+use Rattle.sweep.proofs.line.RankLaws.{between-one, between-two, between-none}
 use borrow.Author.Needs.{needs}
 use Rattle.sweep.proofs.line.rank.Statement.{statement}
 use Rattle.sweep.proofs.line.rank.Tie as tie

@@ -7,7 +7,7 @@ use denote.Ref.{now}
 use borrow.Author.Count.{falls}
 use borrow.Author.Needs.{needs}
 use Rattle.sweep.specs.Line.{x-of}
-use Rattle.sweep.proofs.Crossings.{Swept, swept-none, swept-more, swept-fits, swept-stop, turn-settling, turn-settled, end-settling, end-settled, end-crossed}
+use Rattle.sweep.proofs.strips.StripsLaws.{Swept, swept-none, swept-more, swept-fits, swept-stop, turn-settling, turn-settled, end-settling, end-settled, end-crossed}
 use Rattle.sweep.proofs.strips.strips.Statement.{statement}
 use Rattle.sweep.proofs.strips.strips.Tie as tie
 

@@ -1,4 +1,4 @@
--- The next point enters the line: it goes in behind the entries that are at most it on x, with its flag, or two entries cover
+-- `enter`: the next point goes in behind the entries that are at most it on x, with its flag, or two entries cover
 -- it and it is left out.
 use Prim.Native.Nat.{ℕ, _+_, _-_, _≤_, _<_}
 use mathlib.Core.Path.{_≡_, refl, sym, ap, _∙_}
@@ -10,19 +10,19 @@ use lib.Dec.{leb, eqb}
 use lib.ListN.{length, take, drop, getD}
 use lib.Seq.{length-take-le, getD-take, take-at, drop-at, drop-drop}
 use borrow.Author.Tests.{leb-true}
-use Rattle.slices.specs.Choices.{both}
+use Rattle.slices.specs.Choices.{both, pick}
 use Rattle.hypervolume.specs.Cells.{holds, dominates}
 use Rattle.hypervolume.proofs.Tests.{Compared, below, above, compared}
 use Rattle.slices.proofs.Choices.{both-true, both-comm}
 use Rattle.sweep.specs.declared.column.Column.{Column}
 use Rattle.sweep.specs.Line.{tally, flagged, spot, x-of, y-of, index-of, over, over-by, low, Rising, FlagRight, Flagged, AlikeAt, insert-at}
 use Rattle.sweep.specs.Strips.{ColumnState}
-use Rattle.sweep.specs.Entries.{pickEntry, Below, ThinnedLine, ThinningLine, Walked, Placed, Closed, Entering, Entered}
-use Rattle.sweep.proofs.Tallies.{tally-append, tally-le}
-use Rattle.sweep.proofs.Columns.{state-some}
-use Rattle.sweep.proofs.Orders.{rising-front, rising-join}
-use Rattle.sweep.proofs.Flags.{over-append, over-cons, Fewer, fewer-same, flagged-fewer, flagged-front, flagged-join}
-use Rattle.sweep.proofs.Thinnings.{alike-then, alike-same, covers-further, below-append, below-join, take-drop, drop-take}
+use Rattle.sweep.specs.Entries.{Below, ThinnedLine, ThinningLine, Walked, Placed, Closed, Entering, Entered}
+use Rattle.sweep.proofs.Tally.{tally-append, tally-le, over-append, over-cons}
+use Rattle.sweep.proofs.column.WithLaws.{state-some}
+use Rattle.sweep.proofs.line.Rising.{rising-front, rising-join}
+use Rattle.sweep.proofs.line.Flags.{Fewer, fewer-same, flagged-fewer, flagged-front, flagged-join}
+use Rattle.sweep.proofs.line.Entries.{alike-then, alike-same, covers-further, below-append, below-join, take-drop, drop-take}
 
 -- Where the entries of a line are at most p on x, those that are at most p on y dominate what p dominates.
 low-over : (line : List ℕ) (x y i j : ℕ) → ((k : ℕ) → k < length line → x-of (getD line k 0) ≤ x) → dominates (x ∷ y ∷ []) (i ∷ j ∷ []) ≡ true → low line y ≤ over line (i ∷ j ∷ [])
@@ -51,7 +51,8 @@ record Same (v w : ℕ) : Type 0 where
   pub y : y-of v ≡ y-of w
   pub index : index-of v ≡ index-of w
 
-same-picked : (b : Bool) (w : ℕ) → Same (pickEntry b (flagged w) w) w
+same-picked : (b : Bool) (w : ℕ) → Same (pick b (flagged w) w) w
+unfolding pick
 same-picked true w = record { x = omega arith; y = omega arith; index = omega arith }
 same-picked false w = record { x = refl; y = refl; index = refl }
 
@@ -138,7 +139,7 @@ module _ {line : List ℕ} {m at next : ℕ} (asked : Entering line m at next) w
 
       module _ {b : Bool} (f : b ≡ leb (column .least) y) where
         v : ℕ
-        v = pickEntry b (flagged next) next
+        v = pick b (flagged next) next
 
         same : Same v next
         unfolding v
@@ -149,10 +150,10 @@ module _ {line : List ℕ} {m at next : ℕ} (asked : Entering line m at next) w
 
         -- its flag
         flag-right : FlagRight (take at line) v
-        unfolding v
+        unfolding v pick
         flag-right = rw f (go (leb (column .least) y) (compared (column .least) y))
           where
-            go : (d : Bool) → Compared (column .least) y d → FlagRight (take at line) (pickEntry d (flagged next) next)
+            go : (d : Bool) → Compared (column .least) y d → FlagRight (take at line) (pick d (flagged next) next)
             go true (below m) =
                 record {
                   clear = λ g. absurd (let no′ : ⊥ = omega arith in no′);
@@ -220,7 +221,7 @@ module _ {line : List ℕ} {m at next : ℕ} (asked : Entering line m at next) w
         inserted rest = rw (take-at (take at line) rest at front-long, drop-at (take at line) rest at front-long)
 
         -- No entry has left: those from `at` on have moved up.
-        pub entered-more : {left″ : List ℕ} → to ≡ from → Placed left m at (pickEntry b (flagged next) next) left″ → Entered ry line m next left″ (m + 1)
+        pub entered-more : {left″ : List ℕ} → to ≡ from → Placed left m at (pick b (flagged next) next) left″ → Entered ry line m next left″ (m + 1)
         unfolding all new v
         entered-more {left″} e p =
             let whole′ : take m left ≡ take at line ++ new =
@@ -230,7 +231,7 @@ module _ {line : List ℕ} {m at next : ℕ} (asked : Entering line m at next) w
             entered left″ (m + 1) (p .placed ∙ ap (insert-at at v) whole′ ∙ inserted new) (omega arith)
 
         -- Entries have left: the new one has taken room of theirs, and what was left of it is closed.
-        pub entered-room : {left′ left″ : List ℕ} {end : ℕ} → (to ≡ from → ⊥) → Placed left to at (pickEntry b (flagged next) next) left′ → Closed left′ (to + 1) from m left″ end → Entered ry line m next left″ end
+        pub entered-room : {left′ left″ : List ℕ} {end : ℕ} → (to ≡ from → ⊥) → Placed left to at (pick b (flagged next) next) left′ → Closed left′ (to + 1) from m left″ end → Entered ry line m next left″ end
         unfolding all new v
         entered-room {left′} {left″} {end} differ p c =
             let gap : to < from = omega (arith, walked .gap) in

@@ -1,4 +1,4 @@
--- Looking back along the line for the column at the next point: an entry without the flag has the least y so far, so
+-- `look_back` for the column at the next point: an entry without the flag has the least y so far, so
 -- the entries before it do not change a column whose second least y is at most that.
 use Prim.Native.Nat.{ℕ, suc, _-_, _≤_, _<_}
 use mathlib.Core.Path.{_≡_}
@@ -14,8 +14,8 @@ use Rattle.slices.proofs.Choices.{both-true}
 use Rattle.sweep.specs.declared.column.Column.{Column}
 use Rattle.sweep.specs.Line.{y-of, index-of, flag-of, Flagged}
 use Rattle.sweep.specs.Strips.{column-with, ColumnState, Seen}
-use Rattle.sweep.proofs.Columns.{state-none, state-before, state-behind, column-with-owned}
-use Rattle.sweep.proofs.Flags.{flagged-at}
+use Rattle.sweep.proofs.column.WithLaws.{state-none, state-before, state-behind, column-with-owned}
+use Rattle.sweep.proofs.line.Flags.{flagged-at}
 
 -- The entries from k on have been looked at.
 pub record Looked (ry : ℕ) (line : List ℕ) (column : Column) (k : ℕ) : Type 0 where

@@ -18,11 +18,12 @@ use Rattle.sweep.specs.Points.{zip-points, Ready}
 use Rattle.sweep.specs.Line.{entry-of, x-of, index-of, flag-of, shared-with, Rising, Flagged, Ranked}
 use Rattle.sweep.specs.Strips.{Seen, Crossing, Crossed}
 use Rattle.sweep.specs.Entries.{Entering, Entered}
-use Rattle.sweep.proofs.Lists.{ascending-at, getD-mapped, front-then}
-use Rattle.sweep.proofs.Crossings.{three-fit}
-use Rattle.sweep.proofs.Flags.{flagged-front}
-use Rattle.sweep.proofs.Coordinates.{points-length, points-at, total-turned, contribution-turned}
-use Rattle.sweep.proofs.Layers.{LineFor, line-for-none, line-for-more, below-lift, below-at, at-first, shared-with-none, next-total, next-own, next-other}
+use Rattle.sweep.proofs.Coordinates.{ascending-at, points-length, points-at, total-turned, contribution-turned, three}
+use Rattle.sweep.proofs.Front.{getD-mapped, front-then}
+use Rattle.sweep.proofs.strips.SettleLaws.{three-fit}
+use Rattle.sweep.proofs.line.Flags.{flagged-front}
+use Rattle.sweep.proofs.Layers.{LineFor, line-for-none, line-for-more, at-first, shared-with-none, next-total, next-own, next-other}
+use Rattle.sweep.proofs.line.Entries.{below-lift, below-at}
 
 pub record Progress (xs ys zs out : List ℕ) (rx ry rz i held volume : ℕ) (line left : List ℕ) : Type 0 where
   pub ready : Ready xs ys zs (rx ∷ ry ∷ rz ∷ []) out
@@ -34,14 +35,6 @@ pub record Progress (xs ys zs out : List ℕ) (rx ry rz i held volume : ℕ) (li
   pub kept : (j : ℕ) → i ≤ j → getD left j 0 ≡ getD out j 0
   pub few : held ≤ i
   pub lined : LineFor ry (take i (zip-points zs xs ys)) (take held line)
-
--- a list of three numbers
-pub three : (r : List ℕ) → length r ≡ 3 → getD r 0 0 ∷ getD r 1 0 ∷ getD r 2 0 ∷ [] ≡ r
-three [] e = absurd (let no′ : ⊥ = omega arith in no′)
-three (a ∷ []) e = absurd (let no′ : ⊥ = omega arith in no′)
-three (a ∷ b ∷ []) e = absurd (let no′ : ⊥ = omega arith in no′)
-three (a ∷ b ∷ c ∷ []) e = refl
-three (a ∷ b ∷ c ∷ d ∷ r) e = absurd (let no′ : ⊥ = omega arith in no′)
 
 pub progress-none : {xs ys zs r out : List ℕ} {line : List ℕ} → Ready xs ys zs r out → length r ≡ 3 → length line ≡ 512 → Progress xs ys zs out (getD r 0 0) (getD r 1 0) (getD r 2 0) 0 0 0 line out
 progress-none {xs} {ys} {zs} {r} {out} h e f =
@@ -271,7 +264,7 @@ module _ {xs ys zs out : List ℕ} {rx ry rz i held volume : ℕ} {line left : L
   counts-at : (j : ℕ) → j < length xs → getD counts j 0 ≡ getD left j 0
   unfolding counts contributions
   counts-at j m =
-      getD-mapped (λ t. contribution (rx ∷ ry ∷ rz ∷ []) (zip-points xs ys zs) t) [] (zip-points xs ys zs) j (omega (arith, many))
+      getD-mapped (λ t. contribution (rx ∷ ry ∷ rz ∷ []) (zip-points xs ys zs) t) [] 0 (zip-points xs ys zs) j (omega (arith, many))
       ∙ rw (points-at xs ys zs j (h .ready .ys-many) (h .ready .zs-many) m, h .each j (omega arith), whole, points-at zs xs ys j (omega arith) (omega arith) (omega arith))
       (sym (contribution-turned rx ry rz xs ys zs (getD xs j 0) (getD ys j 0) (getD zs j 0)))
 

@@ -1,16 +1,15 @@
--- The pass over the line. The columns between neighbouring x's are alike, so each strip of them is settled by one
--- product; the invariant counts the columns passed.
+-- `strips`, the pass over the line: the columns between neighbouring x's are alike; the invariant counts the columns passed.
 use Prim.Native.Nat.{ℕ, zero, suc, _+_, _-_, _*_, _^_, _≤_, _<_, max, min}
 use mathlib.Core.Path.{_≡_, refl, sym, ap, _∙_}
 use mathlib.Core.Bool.{Bool, true, false}
 use mathlib.Core.List.{List, _∷_, []}
-use native.Mathlib.Nat.{add-zero, zero-mul, mul-zero, sub-zero, mul-le-mul, mul-le-mul-left, mul-add}
+use native.Mathlib.Nat.{add-zero, zero-mul, mul-zero, mul-le-mul-left, mul-add}
 use native.Mathlib.Decide.{decLe, ℕ-discrete}
 use native.Mathlib.Numerals.{add-one}
 use native.Mathlib.Omega.{arith}
 use lib.Dec.{leb, eqb}
-use lib.ListN.{length, take, getD, set, length-set}
-use lib.Seq.{set-getD, getD-set-same, getD-set-other, take-suc}
+use lib.ListN.{length, take, getD, length-set}
+use lib.Seq.{getD-set-same, getD-set-other, take-suc}
 use borrow.Author.Tests.{le-leb, lt-leb, ne-eqb}
 use borrow.Author.Count.{below-more}
 use Rattle.slices.specs.Choices.{both}
@@ -21,54 +20,10 @@ use Rattle.slices.proofs.Choices.{both-comm}
 use Rattle.sweep.specs.declared.column.Column.{Column}
 use Rattle.sweep.specs.Line.{x-of, y-of, index-of, low, low-by, over, over-by, gain-over, shared-with, Rising}
 use Rattle.sweep.specs.Strips.{column-with, ColumnState, alone, shared, Settling, Settled, Crossing, Crossed}
-use Rattle.sweep.proofs.Orders.{rising-pair}
-use Rattle.sweep.proofs.Tallies.{column-least, column-tally}
-use Rattle.sweep.proofs.Columns.{state-more, column-with-owned, gain-row, shared-row, gain-row-sum, shared-row-sum, shared-row-sum-other}
-
--- Products of two and of three numbers up to 1,048,576 fit a word.
-pub two-fit : {a b : ℕ} → a ≤ 1048576 → b ≤ 1048576 → a * b ≤ 1099511627776
-two-fit p q = mul-le-mul p q
-
-pub three-fit : {a b c : ℕ} → a ≤ 1048576 → b ≤ 1048576 → c ≤ 1048576 → a * (b * c) ≤ 1152921504606846976
-three-fit p q r = mul-le-mul p (two-fit q r)
-
--- A strip of no width.
-pub settled-none : (column : Column) (from to py height : ℕ) (out : List ℕ) → to ≤ from → Settled column from to py height out out 0
-settled-none column from to py height out l =
-    let none : to - from ≡ 0 = omega arith in
-    record {
-      gained = sym (rw none (zero-mul (alone column py)));
-      fallen =
-          sym
-          (rw (none, zero-mul (shared column py), mul-zero height, sub-zero (getD out (column .owner) 0))
-          (set-getD out (column .owner) 0));
-    }
-
--- A strip of some width: the products fit, the owner's contribution is large enough, and what is left.
-module _ {column : Column} {from to py height : ℕ} {out : List ℕ} (h : Settling column from to py height out) {s : ℕ} (e : s ≡ shared column py) where
-  depth-small : s ≤ 1048576
-  depth-small = rw e (omega arith)
-
-  width-small : to - from ≤ 1048576
-  width-small = omega arith
-
-  pub settling-area : (to - from) * s < 2 ^ 64
-  settling-area = omega (arith, two-fit width-small depth-small)
-
-  pub settling-volume : height * ((to - from) * s) < 2 ^ 64
-  settling-volume = omega (arith, three-fit (h .height-small) width-small depth-small)
-
-  pub settling-enough : height * ((to - from) * s) ≤ getD out (column .owner) 0
-  settling-enough = rw e (h .enough)
-
-  module _ {a : ℕ} (f : a ≡ alone column py) where
-    pub settling-gain : (to - from) * a < 2 ^ 64
-    settling-gain =
-        let small : a ≤ 1048576 = rw f (omega arith) in
-        omega (arith, two-fit width-small small)
-
-    pub settled-some : Settled column from to py height out (set out (column .owner) (getD out (column .owner) 0 - height * ((to - from) * s))) ((to - from) * a)
-    settled-some = record { gained = rw f; fallen = rw e }
+use Rattle.sweep.proofs.line.Rising.{rising-pair}
+use Rattle.sweep.proofs.Tally.{column-least, column-tally}
+use Rattle.sweep.proofs.column.WithLaws.{state-more, column-with-owned}
+use Rattle.sweep.proofs.strips.SettleLaws.{gain-row, shared-row, gain-row-sum, shared-row-sum, shared-row-sum-other, two-fit}
 
 -- Column i of the layer: how many of its cells p dominates and no entry does, and how many p dominates with the point
 -- of index t alone. Over all columns these are gain-over and shared-with.

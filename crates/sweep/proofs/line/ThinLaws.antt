@@ -1,7 +1,7 @@
--- Making the line ready for the next point: of the entries behind it, those that it covers are flagged, and left out where
+-- `thin` makes the line ready for the next point: of the entries behind it, those that it covers are flagged, and left out where
 -- they had the flag. An entry left out is covered by the next point and by entries before it, so two still dominate each
 -- cell that it dominates (law 6).
-use Prim.Native.Nat.{ℕ, zero, suc, _+_, _-_, _≤_, _<_, min}
+use Prim.Native.Nat.{ℕ, _+_, _-_, _≤_, _<_}
 use mathlib.Core.Path.{_≡_, refl, sym, ap, _∙_}
 use mathlib.Core.Bool.{Bool, true, false}
 use mathlib.Core.List.{List, _∷_, _++_, append-assoc, append-nil, []}
@@ -10,56 +10,19 @@ use native.Mathlib.Numerals.{add-one}
 use native.Mathlib.Decide.{decLe, ℕ-discrete}
 use native.Mathlib.Omega.{arith}
 use lib.Dec.{leb, eqb}
-use lib.ListN.{length, take, drop, getD, set, length-append, length-take, length-drop, length-set, take-append-drop, drop-of-length-le}
-use lib.Seq.{append-snoc, drop-cons, drop-append-le, getD-take, getD-drop, take-take, take-nil, drop-drop, length-take-le, take-set-le, drop-set-lt, take-suc-set}
-use borrow.Author.Tests.{le-leb}
+use lib.ListN.{length, take, drop, getD, set, length-append, length-take, length-drop, length-set, drop-of-length-le}
+use lib.Seq.{append-snoc, drop-cons, drop-append-le, getD-take, getD-drop, drop-drop, length-take-le, take-set-le, drop-set-lt, take-suc-set}
 use Rattle.slices.specs.Choices.{both}
 use Rattle.hypervolume.specs.Cells.{holds, dominates}
 use Rattle.slices.proofs.Choices.{both-comm}
-use Rattle.hypervolume.proofs.Dominance.{first, rest, atMost, atMost-dominates}
+use Rattle.hypervolume.proofs.Dominance.{rest}
 use Rattle.sweep.specs.Line.{tally, flagged, spot, x-of, y-of, index-of, flag-of, over, over-by, low, Rising, FlagRight, Flagged, AlikeAt}
 use Rattle.sweep.specs.Entries.{Below, ThinnedLine, ThinningLine, Walked}
-use Rattle.sweep.proofs.Tallies.{tally-append}
-use Rattle.sweep.proofs.Columns.{low-append, low-more, holds-under, holds-beyond}
-use Rattle.sweep.proofs.Orders.{rising-back, rising-from, rising-less, rising-same}
-use Rattle.sweep.proofs.Flags.{over-append, over-cons, over-more, Fewer, fewer-same, flagged-fewer, flagged-back, flagged-join, flagged-one}
-
--- Lines that count alike at a cell.
-pub alike-then : {a b c : List ℕ} {i j : ℕ} → AlikeAt a b i j → AlikeAt b c i j → AlikeAt a c i j
-alike-then {a} {b} {c} {i} {j} h g =
-    record {
-      many = g .many ∙ h .many;
-      whose = λ t l. g .whose t (omega (arith, h .many)) ∙ h .whose t l;
-    }
-
-pub alike-same : {a b : List ℕ} {i j : ℕ} → over b (i ∷ j ∷ []) ≡ over a (i ∷ j ∷ []) → ((t : ℕ) → over-by t b (i ∷ j ∷ []) ≡ over-by t a (i ∷ j ∷ [])) → AlikeAt a b i j
-alike-same e f = record { many = ap (λ k. min k 2) e; whose = λ t l. f t }
-
--- A count of entries, with one of them at its place among the others.
-tally-middle : (test : ℕ → Bool) (u : ℕ) (front s : List ℕ) (w : ℕ) (t : List ℕ) → tally test (u ∷ (front ++ (s ++ (w ∷ t)))) ≡ holds (test w) + tally test (u ∷ (front ++ (s ++ t)))
-unfolding tally
-tally-middle test u front s w t =
-    let all : tally test (front ++ (s ++ (w ∷ t))) ≡ tally test front + (tally test s + (holds (test w) + tally test t)) =
-    tally-append test front (s ++ (w ∷ t)) ∙ ap (λ k. tally test front + k) (tally-append test s (w ∷ t)) in
-    let less : tally test (front ++ (s ++ t)) ≡ tally test front + (tally test s + tally test t) =
-    tally-append test front (s ++ t) ∙ ap (λ k. tally test front + k) (tally-append test s t) in
-    omega arith
-
--- A point that is at most another on both axes dominates what that one dominates.
-pub covers-further : (x y u v : ℕ) (c : List ℕ) → x ≤ u → y ≤ v → dominates (u ∷ v ∷ []) c ≡ true → dominates (x ∷ y ∷ []) c ≡ true
-unfolding atMost both first rest
-covers-further x y u v c l m d =
-    atMost-dominates (x ∷ y ∷ []) (u ∷ v ∷ []) c (rw (le-leb x u l, le-leb y v m)) d
-
-pub below-append : (n : ℕ) (s t : List ℕ) → Below n (s ++ t) → Below n s × Below n t
-unfolding Below
-below-append n [] t h = (tt, h)
-below-append n (w ∷ s) t h = let later = below-append n s t (h .1) in ((h .0, later .0), later .1)
-
-pub below-join : (n : ℕ) (s t : List ℕ) → Below n s → Below n t → Below n (s ++ t)
-unfolding Below
-below-join n [] t f g = g
-below-join n (w ∷ s) t f g = (f .0, below-join n s t (f .1) g)
+use Rattle.sweep.proofs.Tally.{low-append, low-more, over-append, over-cons, over-more, tally-middle}
+use Rattle.sweep.proofs.column.WithLaws.{holds-under, holds-beyond}
+use Rattle.sweep.proofs.line.Rising.{rising-back, rising-from, rising-less, rising-same}
+use Rattle.sweep.proofs.line.Flags.{Fewer, fewer-same, flagged-fewer, flagged-back, flagged-join, flagged-one}
+use Rattle.sweep.proofs.line.Entries.{alike-then, alike-same, covers-further, below-append, below-join, take-drop, drop-take}
 
 -- The walk, with the entries that stay in `done` and those to come in `rest`.
 pub record Walk (front old : List ℕ) (next : ℕ) (done rest : List ℕ) : Type 0 where
@@ -316,9 +279,6 @@ pub record Walking (line : List ℕ) (m at next : ℕ) (now : List ℕ) (to from
   pub unread : drop from now ≡ drop from line
   pub walk : Walk (take at line) (drop at (take m line)) next (drop at (take to now)) (drop from (take m line))
 
-pub take-drop : (at m : ℕ) (l : List ℕ) → at ≤ m → take at l ++ drop at (take m l) ≡ take m l
-take-drop at m l p = rw (← (take-take at m l p)) (take-append-drop at (take m l))
-
 pub walking-none : (line : List ℕ) (m at next : ℕ) → ThinningLine line m at next → Walking line m at next line at at
 unfolding Flagged
 walking-none line m at next h =
@@ -360,14 +320,6 @@ walking-none line m at next h =
           alike = λ i j. alike-same refl (λ t. refl);
           below = λ n b. b;
         }
-
-pub drop-take : (from m : ℕ) (l : List ℕ) → drop from (take m l) ≡ take (m - from) (drop from l)
-drop-take zero m l = let all : m - 0 ≡ m = omega arith in rw all
-drop-take (suc from) zero l = let none : 0 - suc from ≡ 0 = omega arith in rw none
-drop-take (suc from) (suc m) [] = sym (take-nil (suc m - suc from))
-drop-take (suc from) (suc m) (w ∷ l) =
-    let less : suc m - suc from ≡ m - from = omega arith in
-    drop-take from m l ∙ ap (λ k. take k (drop from l)) (sym less)
 
 odd : (w : ℕ) → (flag-of w ≡ 0 → ⊥) → flag-of w ≡ 1
 odd w n = go (ℕ-discrete (flag-of w) 0)
