@@ -3,7 +3,7 @@ use Prim.Native.Nat.{ℕ, _+_, _-_, _≤_, _<_}
 use mathlib.Core.Path.{_≡_}
 use mathlib.Core.List.{List, _∷_, _++_, []}
 use lib.ListN.{length, take, drop, getD}
-use Rattle.sweep.specs.Line.{x-of, index-of, flag-of, Rising, Flagged, ValidLine, Ranked, AlikeAt, Alike, insert-at}
+use Rattle.sweep.specs.Line.{x-of, index-of, flag-of, Rising, Flagged, ValidLine, Ranked, AlikeAt, Alike}
 
 -- Every entry is of a point of index below n.
 unfoldable pub Below : ℕ → List ℕ → Type 0
@@ -31,13 +31,9 @@ pub record Walked (line : List ℕ) (m at next : ℕ) (left : List ℕ) (to from
   pub front : at ≤ to
   pub gap : to ≤ from
   pub within : from ≤ m
+  pub long : length left ≡ length line
   pub before : take at left ≡ take at line
   pub thinned : ThinnedLine (take at line) (drop at (take m line)) next (drop at (take to left) ++ drop from (take m left))
-
--- An entry put in among the first m; the words behind are as they were.
-pub record Placed (line : List ℕ) (m at entry : ℕ) (left : List ℕ) : Type 0 where
-  pub placed : take (m + 1) left ≡ insert-at at entry (take m line)
-  pub behind : drop (m + 1) left ≡ drop (m + 1) line
 
 -- The gap closed.
 pub record Closed (line : List ℕ) (to from m : ℕ) (left : List ℕ) (end : ℕ) : Type 0 where

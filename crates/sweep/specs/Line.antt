@@ -6,7 +6,7 @@ use mathlib.Core.Path.{_≡_}
 use mathlib.Core.Bool.{Bool, true}
 use mathlib.Core.List.{List, _∷_, _++_, []}
 use lib.Dec.{leb, eqb}
-use lib.ListN.{length, take, drop, getD}
+use lib.ListN.{length, getD}
 use Rattle.slices.specs.Choices.{both}
 use Rattle.hypervolume.specs.Cells.{holds, dominates, count}
 
@@ -101,7 +101,3 @@ pub record AlikeAt (line other : List ℕ) (i j : ℕ) : Type 0 where
 
 abbrev pub Alike : ℕ → List ℕ → List ℕ → Type 0
 Alike ry line other = (i j : ℕ) → j < ry → AlikeAt line other i j
-
--- The list with one more entry, before the one at index `at`.
-abbrev pub insert-at : ℕ → ℕ → List ℕ → List ℕ
-insert-at at w line = take at line ++ (w ∷ drop at line)

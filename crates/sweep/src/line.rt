@@ -4,14 +4,16 @@
 // no longer counts.
 use crate::column::Column;
 ghost use mathlib.Core.Path.{_≡_};
-ghost use Prim.Native.Nat.{ℕ, _+_, _≤_, _<_};
+ghost use Prim.Native.Nat.{ℕ, _+_, _-_, _≤_, _<_};
 ghost use lib.Dec.{leb};
-ghost use lib.ListN.{length, take};
+ghost use mathlib.Core.List.{_∷_};
+ghost use lib.ListN.{length, take, drop};
 ghost use Rattle.slices.specs.Choices.{pick};
+ghost use Rattle.slices.specs.Put.{put};
 ghost use Rattle.hypervolume.specs.Cells.{holds};
 ghost use Rattle.sweep.specs.Line.{entry-of, flagged, x-of, y-of, index-of, flag-of, Rising, Between, Ranked};
 ghost use Rattle.sweep.specs.Strips.{ColumnState};
-ghost use Rattle.sweep.specs.Entries.{ThinningLine, Walked, Placed, Closed, Entering, Entered};
+ghost use Rattle.sweep.specs.Entries.{ThinningLine, Walked, Closed, Entering, Entered};
 
 pub fn entry(x: u64, y: u64, index: usize) -> u64
     requires { ⌜ (x ≤ 1048576) × (y ≤ 1048576) × (index < 512) ⌝ }
@@ -151,24 +153,16 @@ fn close(line: &mut [u64], to: usize, from: usize, m: usize) -> usize
         return m;
     }
     let n = m - from;
-    let mut i = 0;
-    while i < n {
-        line[to + i] = line[from + i];
-        i += 1;
-    }
+    slices::move_down(line, to, n, from - to);
     to + n
 }
 
 // Puts the entry in at `at`, among the first m.
 fn place(line: &mut [u64], m: usize, at: usize, entry: u64)
     requires { ⌜ (at ≤ m) × (m < length (now line)) ⌝ }
-    ensures { λ _. ⌜ Placed (now (line .entry)) m at entry (now (line .exit)) ⌝ }
+    ensures { λ _. ⌜ now (line .exit) ≡ put (now (line .entry)) at (entry ∷ take (m - at) (drop at (now (line .entry)))) ⌝ }
 {
-    let mut k = m;
-    while at < k {
-        line[k] = line[k - 1];
-        k -= 1;
-    }
+    slices::move_up(line, at, m - at, 1);
     line[at] = entry;
 }
 

@@ -8,16 +8,18 @@ use native.Mathlib.Nat.{zero-add}
 use native.Mathlib.Omega.{arith}
 use lib.Dec.{leb, eqb}
 use lib.ListN.{length, take, drop, getD}
-use lib.Seq.{length-take-le, getD-take, take-at, drop-at, drop-drop}
+use lib.Seq.{length-take-le, getD-take, drop-at, drop-drop}
 use borrow.Author.Tests.{leb-true}
 use Rattle.slices.specs.Choices.{both, pick}
 use Rattle.hypervolume.specs.Cells.{holds, dominates}
 use Rattle.hypervolume.proofs.Tests.{Compared, below, above, compared}
 use Rattle.slices.proofs.Choices.{both-true, both-comm}
 use Rattle.sweep.specs.declared.column.Column.{Column}
-use Rattle.sweep.specs.Line.{tally, flagged, spot, x-of, y-of, index-of, over, over-by, low, Rising, FlagRight, Flagged, AlikeAt, insert-at}
+use Rattle.sweep.specs.Line.{tally, flagged, spot, x-of, y-of, index-of, over, over-by, low, Rising, FlagRight, Flagged, AlikeAt}
 use Rattle.sweep.specs.Strips.{ColumnState}
-use Rattle.sweep.specs.Entries.{Below, ThinnedLine, ThinningLine, Walked, Placed, Closed, Entering, Entered}
+use Rattle.sweep.specs.Entries.{Below, ThinnedLine, ThinningLine, Walked, Closed, Entering, Entered}
+use Rattle.slices.specs.Put.{put}
+use Rattle.sweep.proofs.line.PlaceLaws.{placed-front, placed-behind}
 use Rattle.sweep.proofs.Tally.{tally-append, tally-le, over-append, over-cons}
 use Rattle.sweep.proofs.column.WithLaws.{state-some}
 use Rattle.sweep.proofs.line.Rising.{rising-front, rising-join}
@@ -217,36 +219,42 @@ module _ {line : List ℕ} {m at next : ℕ} (asked : Entering line m at next) w
               below = λ n g h. rw is (below-all n g h);
             }
 
-        inserted : (rest : List ℕ) → insert-at at v (take at line ++ rest) ≡ take at line ++ (v ∷ rest)
-        inserted rest = rw (take-at (take at line) rest at front-long, drop-at (take at line) rest at front-long)
-
         -- No entry has left: those from `at` on have moved up.
-        pub entered-more : {left″ : List ℕ} → to ≡ from → Placed left m at (pick b (flagged next) next) left″ → Entered ry line m next left″ (m + 1)
+        pub entered-more : {left″ : List ℕ} → to ≡ from → left″ ≡ put left at (pick b (flagged next) next ∷ take (m - at) (drop at left)) → Entered ry line m next left″ (m + 1)
         unfolding all new v
         entered-more {left″} e p =
             let whole′ : take m left ≡ take at line ++ new =
             sym (take-drop from m left (walked .within))
             ∙ ap (λ r. r ++ drop from (take m left)) (ap (λ k. take k left) (sym e) ∙ stays)
             ∙ append-assoc (take at line) (drop at (take to left)) (drop from (take m left)) in
-            entered left″ (m + 1) (p .placed ∙ ap (insert-at at v) whole′ ∙ inserted new) (omega arith)
+            entered left″ (m + 1)
+            (ap (take (m + 1)) p
+            ∙ placed-front left m at v at-within (omega (arith, asked .room, walked .long))
+            ∙ ap (λ r. r ++ (v ∷ drop at (take m left))) (walked .before)
+            ∙ ap (λ r. take at line ++ (v ∷ r)) (ap (drop at) whole′ ∙ drop-at (take at line) new at front-long))
+            (omega arith)
 
         -- Entries have left: the new one has taken room of theirs, and what was left of it is closed.
-        pub entered-room : {left′ left″ : List ℕ} {end : ℕ} → (to ≡ from → ⊥) → Placed left to at (pick b (flagged next) next) left′ → Closed left′ (to + 1) from m left″ end → Entered ry line m next left″ end
+        pub entered-room : {left′ left″ : List ℕ} {end : ℕ} → (to ≡ from → ⊥) → left′ ≡ put left at (pick b (flagged next) next ∷ take (to - at) (drop at left)) → Closed left′ (to + 1) from m left″ end → Entered ry line m next left″ end
         unfolding all new v
         entered-room {left′} {left″} {end} differ p c =
             let gap : to < from = omega (arith, walked .gap) in
+            let room : to < length left = omega (arith, asked .room, walked .within, walked .long) in
             let split : from ≡ to + 1 + (from - (to + 1)) = omega arith in
             let behind : drop from left′ ≡ drop from left =
             ap (λ k. drop k left′) split
             ∙ sym (drop-drop (from - (to + 1)) (to + 1) left′)
-            ∙ ap (drop (from - (to + 1))) (p .behind)
+            ∙ ap (drop (from - (to + 1))) (ap (drop (to + 1)) p ∙ placed-behind left to at v (walked .front) room)
             ∙ drop-drop (from - (to + 1)) (to + 1) left
             ∙ ap (λ k. drop k left) (sym split) in
             let rest : drop from (take m left′) ≡ drop from (take m left) =
             drop-take from m left′ ∙ ap (take (m - from)) behind ∙ sym (drop-take from m left) in
             entered left″ end
             (c .joined
-            ∙ ap (λ r. r ++ drop from (take m left′)) (p .placed ∙ ap (insert-at at v) stays ∙ inserted (drop at (take to left)))
+            ∙ ap (λ r. r ++ drop from (take m left′))
+            (ap (take (to + 1)) p
+            ∙ placed-front left to at v (walked .front) room
+            ∙ ap (λ r. r ++ (v ∷ drop at (take to left))) (walked .before))
             ∙ ap (λ r. (take at line ++ (v ∷ drop at (take to left))) ++ r) rest
             ∙ append-assoc (take at line) (v ∷ drop at (take to left)) (drop from (take m left)))
             (omega (arith, c .ends, walked .gap, walked .within))

@@ -407,6 +407,7 @@ module _ {line : List ℕ} {m at next : ℕ} {now : List ℕ} {to from : ℕ} (h
         front = h .front;
         gap = h .gap;
         within = h .within;
+        long = h .long;
         before = h .before;
         thinned = rw (unread-part, rest-is, ← walking-entry) (walk-stop come-to (sym i ∙ n) (omega arith));
       }
@@ -417,6 +418,7 @@ walking-end {line} {m} {at} {next} {now} {to} {from} h l =
       front = h .front;
       gap = h .gap;
       within = h .within;
+      long = h .long;
       before = h .before;
       thinned = rw (none now) (walk-end (rw (none line) at (h .walk)));
     }
