@@ -1,24 +1,21 @@
 -- Which corners an update counts: those at most a limit on each axis.
 use Prim.Native.Nat.{ℕ, suc, _+_, _≤_, _<_, max}
 use mathlib.Core.Path.{_≡_}
-use mathlib.Core.Bool.{Bool, true, false}
+use mathlib.Core.Bool.{Bool, true}
 use mathlib.Core.List.{List, _∷_, map, []}
 use lib.Dec.{leb}
 use lib.ListN.{length, take, getD, set}
+use Rattle.slices.specs.Choices.{pick}
 use Rattle.hypervolume.specs.Cells.{holds, dominates, join}
 use Rattle.hypervolume.specs.Counts.{cover}
 use Rattle.corners.specs.declared.limits.Two.{Two}
-use Rattle.sweep.specs.Points.{zip-points, Ascending}
-
-abbrev pub pickTwo : Bool → Two → Two → Two
-pickTwo true a b = a
-pickTwo false a b = b
+use Rattle.sweep.specs.Points.{zip-points, SameLength, Ascending}
 
 -- The two least numbers with one more.
 unfoldable pub two-with : Two → ℕ → Two
 two-with two n =
-    pickTwo (leb (two .second) n) two
-    (pickTwo (leb (two .least) n) (record { least = two .least; second = n })
+    pick (leb (two .second) n) two
+    (pick (leb (two .least) n) (record { least = two .least; second = n })
     (record { least = n; second = two .least }))
 
 -- On how many axes a point is at most p.
@@ -27,13 +24,7 @@ axes-within x y z p = holds (leb x (getD p 0 0)) + holds (leb y (getD p 1 0)) + 
 
 -- n where the test holds; else 1,048,576, which limits nothing.
 unfoldable pub offer : Bool → ℕ → ℕ
-offer true n = n
-offer false n = 1048576
-
--- Three lists of one length.
-pub record SameLength (xs ys zs : List ℕ) : Type 0 where
-  pub ys-many : length ys ≡ length xs
-  pub zs-many : length zs ≡ length xs
+offer test n = pick test n 1048576
 
 -- On each axis the limit is at least u. Where it limits anything, at least two of the points are at most u moved
 -- along that axis up to the limit.
@@ -42,13 +33,9 @@ pub record Limits (trials : List (List ℕ)) (u limit : List ℕ) : Type 0 where
   pub twice : (a : ℕ) → a < length limit → getD limit a 0 < 1048576 → 2 ≤ cover trials (set u a (getD limit a 0))
 
 -- The points that pass a test, in their order.
-abbrev pub pick : Bool → List ℕ → List (List ℕ) → List (List ℕ)
-pick true t trials = t ∷ trials
-pick false t trials = trials
-
 unfoldable pub passing : (List ℕ → Bool) → List (List ℕ) → List (List ℕ)
 passing test [] = []
-passing test (t ∷ trials) = pick (test t) t (passing test trials)
+passing test (t ∷ trials) = pick (test t) (t ∷ passing test trials) (passing test trials)
 
 -- The corners of u with the points.
 abbrev pub corners : List ℕ → List ℕ → List ℕ → List ℕ → List (List ℕ)

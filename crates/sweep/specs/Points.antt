@@ -20,6 +20,11 @@ Small l = (k : ℕ) → getD l k 0 ≤ 1048576
 abbrev pub Ascending : List ℕ → Type 0
 Ascending l = (k : ℕ) → suc k < length l → getD l k 0 ≤ getD l (suc k) 0
 
+-- Three lists of one length.
+pub record SameLength (xs ys zs : List ℕ) : Type 0 where
+  pub ys-many : length ys ≡ length xs
+  pub zs-many : length zs ≡ length xs
+
 -- What the sweep asks: three lists of one length, at most 512, with room for as many counts, and the points in
 -- ascending order of z.
 pub record Ready (xs ys zs reference out : List ℕ) : Type 0 where

@@ -1,24 +1,24 @@
--- The limits of an update: on each axis the second least of the offers that the points make.
+-- `limits`: on each axis the second least of the offers that the points make.
 use Prim.Native.Nat.{ℕ, zero, suc, _+_, _≤_, _<_, max}
-use mathlib.Core.Path.{_≡_, refl, sym, ap, _∙_}
+use mathlib.Core.Path.{_≡_, refl, ap}
 use mathlib.Core.Bool.{Bool, true, false}
 use mathlib.Core.List.{List, _∷_, _++_, []}
 use native.Mathlib.Nat.{le-trans}
 use native.Mathlib.Numerals.{add-one}
 use native.Mathlib.Omega.{arith}
-use lib.Dec.{leb, eqb}
+use lib.Dec.{leb}
 use lib.ListN.{length, take, drop, getD, set, take-append-drop}
 use lib.Seq.{take-suc}
-use borrow.Author.Tests.{leb-true, le-leb, eq-eqb, ne-eqb}
-use Rattle.slices.specs.Choices.{both}
+use borrow.Author.Tests.{leb-true, le-leb}
+use Rattle.slices.specs.Choices.{both, pick}
 use Rattle.hypervolume.specs.Cells.{holds, dominates}
 use Rattle.hypervolume.specs.Counts.{cover}
-use Rattle.hypervolume.proofs.Tests.{Compared, below, above, compared, holds-le-one}
+use Rattle.hypervolume.proofs.Tests.{Compared, below, above, compared}
 use Rattle.slices.proofs.Choices.{both-true, both-intro}
 use Rattle.hypervolume.proofs.Dominance.{cover-append}
 use Rattle.corners.specs.declared.limits.Two.{Two}
-use Rattle.sweep.specs.Points.{zip-points, Small}
-use Rattle.corners.specs.Limits.{pickTwo, two-with, axes-within, offer, SameLength, Limits}
+use Rattle.sweep.specs.Points.{SameLength, zip-points, Small}
+use Rattle.corners.specs.Limits.{two-with, offer, Limits}
 use Rattle.sweep.proofs.Coordinates.{points-length, points-at, three}
 
 -- A limit that is raised loses no point.
@@ -57,7 +57,7 @@ two-least-none passed u a =
     }
 
 two-least-more : {passed : List (List ℕ)} {u : List ℕ} {a : ℕ} {two : Two} (p : List ℕ) (n : ℕ) → TwoLeast passed u a two → (n < 1048576 → dominates p (set u a n) ≡ true) → TwoLeast (passed ++ (p ∷ [])) u a (two-with two n)
-unfolding two-with cover holds
+unfolding two-with pick cover holds
 two-least-more {passed} {u} {a} {two} p n h offered =
     go (leb (two .second) n) (leb (two .least) n) (compared (two .second) n) (compared (two .least) n)
   where
@@ -68,7 +68,7 @@ two-least-more {passed} {u} {a} {two} p n h offered =
     p-too : (limit : ℕ) → n ≤ limit → limit < 1048576 → holds (dominates p (set u a limit)) ≡ 1
     p-too limit l m = ap holds (raised-dominates p u a n limit l (offered (omega arith)))
 
-    go : (s t : Bool) → Compared (two .second) n s → Compared (two .least) n t → TwoLeast (passed ++ (p ∷ [])) u a (pickTwo s two (pickTwo t (record { least = two .least; second = n }) (record { least = n; second = two .least })))
+    go : (s t : Bool) → Compared (two .second) n s → Compared (two .least) n t → TwoLeast (passed ++ (p ∷ [])) u a (pick s two (pick t (record { least = two .least; second = n }) (record { least = n; second = two .least })))
     go true t (below l) m =
         record {
           one = λ q. omega (arith, with-p (two .least), h .one q);
@@ -87,7 +87,7 @@ two-least-more {passed} {u} {a} {two} p n h offered =
 
 -- An offer that limits anything is of a point at most u on the two other axes.
 offer-made : (t : Bool) (n v : ℕ) → v ≡ offer t n → v < 1048576 → (t ≡ true) × (v ≡ n)
-unfolding offer
+unfolding offer pick
 offer-made true n v e l = (refl, e)
 offer-made false n v e l = absurd (let no′ : ⊥ = omega arith in no′)
 
@@ -230,32 +230,3 @@ module _ {xs ys zs : List ℕ} {ux uy uz : ℕ} {on-x on-y on-z : Two} {limit : 
 pub bounding-end : {xs ys zs : List ℕ} {on-x on-y on-z : Two} {limit : List ℕ} {i : ℕ} (u : List ℕ) → length u ≡ 3 → Bounding xs ys zs (getD u 0 0) (getD u 1 0) (getD u 2 0) on-x on-y on-z limit i → Limits (zip-points xs ys zs) u limit
 bounding-end {xs} {ys} {zs} {i = i} u e h =
     rw (three u e, take-append-drop i (zip-points xs ys zs)) at (limits-later (drop i (zip-points xs ys zs)) (h .limits))
-
--- Adding up the tests of the three axes.
-pub axes-few : (x y z : ℕ) (p : List ℕ) {n : ℕ} → n ≡ axes-within x y z p → n ≤ 3
-unfolding axes-within
-axes-few x y z p e =
-    omega (arith, holds-le-one (leb x (getD p 0 0)), holds-le-one (leb y (getD p 1 0)), holds-le-one (leb z (getD p 2 0)))
-
-all-three : (a b c : Bool) → eqb (holds a + holds b + holds c) 3 ≡ both a (both b (both c true))
-unfolding holds both
-all-three true true true = refl
-all-three true true false = refl
-all-three true false true = refl
-all-three true false false = refl
-all-three false true true = refl
-all-three false true false = refl
-all-three false false true = refl
-all-three false false false = refl
-
-axes-dominates : (x y z : ℕ) (p : List ℕ) → length p ≡ 3 → eqb (axes-within x y z p) 3 ≡ dominates (x ∷ y ∷ z ∷ []) p
-unfolding axes-within dominates
-axes-dominates x y z p e =
-    all-three (leb x (getD p 0 0)) (leb y (getD p 1 0)) (leb z (getD p 2 0)) ∙ ap (dominates (x ∷ y ∷ z ∷ [])) (three p e)
-
-module _ (x y z : ℕ) (p : List ℕ) (e : length p ≡ 3) {n : ℕ} (f : n ≡ axes-within x y z p) where
-  pub axes-all : n ≡ 3 → dominates (x ∷ y ∷ z ∷ []) p ≡ true
-  axes-all g = sym (axes-dominates x y z p e) ∙ eq-eqb (axes-within x y z p) 3 (sym f ∙ g)
-
-  pub axes-not : (n ≡ 3 → ⊥) → dominates (x ∷ y ∷ z ∷ []) p ≡ false
-  axes-not g = sym (axes-dominates x y z p e) ∙ ne-eqb (axes-within x y z p) 3 (λ q. g (f ∙ q))

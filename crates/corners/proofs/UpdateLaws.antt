@@ -7,18 +7,21 @@ use mathlib.Core.List.{List, _∷_, _++_, map, map-map, []}
 use mathlib.Core.Logic.{_⊎_, inl, inr}
 use native.Mathlib.Decide.{decLe}
 use native.Mathlib.Omega.{arith}
-use lib.ListN.{length, take, drop, getD, replicate, length-append, length-drop, length-take, length-map, length-replicate, getD-replicate, List·getD-append, List·getD-eq-default}
-use lib.Seq.{take-at, take-all, length-take-le, getD-take, getD-drop, getD-append-add}
+use lib.ListN.{length, take, drop, getD, replicate, length-take, length-map, length-replicate, getD-replicate, List·getD-eq-default}
+use lib.Seq.{take-at, take-all, length-take-le, getD-take}
+use Rattle.slices.specs.Put.{put}
+use Rattle.slices.proofs.Put.{length-put, put-inside, put-behind}
+use native.Mathlib.Nat.{zero-add}
 use Rattle.hypervolume.specs.Cells.{dominates, join, edges}
 use Rattle.hypervolume.specs.Counts.{total, contribution, gain, contributions, joints}
 use Rattle.hypervolume.proofs.Counting.{joint-corner, gain-edges, Twice}
-use Rattle.sweep.specs.Points.{zip-points, Small, Ascending, Ready}
-use Rattle.corners.specs.Limits.{SameLength, Limits, passing, corners, CornersOn, Stands, Collected, Spreading, spread}
+use Rattle.sweep.specs.Points.{SameLength, zip-points, Small, Ascending, Ready}
+use Rattle.corners.specs.Limits.{Limits, passing, corners, CornersOn, Stands, Collected, Spreading, spread}
 use Rattle.sweep.proofs.Coordinates.{ascending-at, points-length, points-at, three}
 use Rattle.sweep.proofs.Front.{getD-mapped, front-then}
-use Rattle.corners.proofs.Keeping.{passing-total, passing-contribution, failing-contribution, limit-twice}
-use Rattle.corners.proofs.Collections.{corners-length, corner-at}
-use Rattle.corners.proofs.Spreads.{Due, due-right, due-beyond, spread-length}
+use Rattle.corners.proofs.Passing.{passing-total, passing-contribution, failing-contribution, limit-twice}
+use Rattle.corners.proofs.limits.CollectLaws.{corners-length, corner-at}
+use Rattle.corners.proofs.limits.SpreadLaws.{Due, due-right, due-beyond, spread-length}
 
 -- The joint contributions with u are the corners' contributions.
 corners-joints : (r u : List ℕ) (trials : List (List ℕ)) → contributions r (map (join u) trials) ≡ joints r trials u
@@ -147,7 +150,7 @@ module _ {u xs ys zs r out limit kx ky kz places : List ℕ} {m : ℕ} (h : Prep
       ∙ sym (corner-at u alike (getD places k 0) (h .collected .inside k l))
 
   -- What the sweep leaves, and the counts cleared before it.
-  module _ (blank : List ℕ) {counts left : List ℕ} (e : counts ≡ contributions r some ++ drop (length (take m kx)) blank) (f : left ≡ replicate (length xs) 0 ++ drop (length xs) out) where
+  module _ (blank : List ℕ) {counts left : List ℕ} (e : counts ≡ contributions r some ++ drop (length (take m kx)) blank) (f : left ≡ put out 0 (replicate (length xs) 0)) where
     counts-many : length (contributions r some) ≡ m
     unfolding contributions
     counts-many = length-map some (λ t. contribution r some t) ∙ some-many
@@ -159,26 +162,24 @@ module _ {u xs ys zs r out limit kx ky kz places : List ℕ} {m : ℕ} (h : Prep
     unfolding contributions
     lent-at k l =
         rw lent
-        (getD-mapped (λ t. contribution r some t) [] some k (omega (arith, some-many))
+        (getD-mapped (λ t. contribution r some t) [] 0 some k (omega (arith, some-many))
         ∙ rw (some-at k l, passing-all) (passing-contribution r test all left-out (getD all (getD places k 0) [])))
 
+    zeros-fit : 0 + length (replicate {A = ℕ} (length xs) 0) ≤ length out
+    zeros-fit = omega (arith, length-replicate {A = ℕ} (length xs) 0, h .ready .room)
+
     left-long : length left ≡ length out
-    left-long = rw f (omega (arith, length-append (replicate (length xs) 0) (drop (length xs) out), length-replicate {A = ℕ} (length xs) 0, length-drop (length xs) out, h .ready .room))
+    left-long = ap length f ∙ length-put out 0 (replicate (length xs) 0) zeros-fit
 
     left-zero : (j : ℕ) → j < length xs → getD left j 0 ≡ 0
     left-zero j l =
-        rw (f, List·getD-append (replicate (length xs) 0) (drop (length xs) out) 0 j (omega (arith, length-replicate {A = ℕ} (length xs) 0)))
-        (getD-replicate (length xs) j 0 0 l)
+        rw (f, ← (zero-add j))
+        (put-inside out 0 (replicate (length xs) 0) zeros-fit j (omega (arith, length-replicate {A = ℕ} (length xs) 0))
+        ∙ getD-replicate (length xs) j 0 0 l)
 
     left-old : (j : ℕ) → length xs ≤ j → getD left j 0 ≡ getD out j 0
     left-old j l =
-        let split : j ≡ length {A = ℕ} (replicate (length xs) 0) + (j - length xs) = omega (arith, length-replicate {A = ℕ} (length xs) 0) in
-        let again : j ≡ length xs + (j - length xs) = omega arith in
-        rw f
-        (ap (λ i. getD (replicate (length xs) 0 ++ drop (length xs) out) i 0) split
-        ∙ getD-append-add (replicate (length xs) 0) (drop (length xs) out) (j - length xs) 0
-        ∙ getD-drop (length xs) out (j - length xs) 0
-        ∙ ap (λ i. getD out i 0) (sym again))
+        rw f (put-behind out 0 (replicate (length xs) 0) zeros-fit j (omega (arith, length-replicate {A = ℕ} (length xs) 0)))
 
     inside : (k : ℕ) → k < length (take m places) → getD (take m places) k 0 < length xs
     inside k l =
@@ -223,7 +224,7 @@ module _ {u xs ys zs r out limit kx ky kz places : List ℕ} {m : ℕ} (h : Prep
     unfolding contributions
     joints-at j l =
         rw (← (corners-joints r u (zip-points xs ys zs)))
-        (getD-mapped (λ t. contribution r all t) [] all j (omega (arith, corners-length u alike)))
+        (getD-mapped (λ t. contribution r all t) [] 0 all j (omega (arith, corners-length u alike)))
 
     joints-many : length (joints r (zip-points xs ys zs) u) ≡ length xs
     unfolding contributions

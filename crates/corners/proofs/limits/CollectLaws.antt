@@ -1,32 +1,27 @@
--- Collecting the corners within a limit.
-use Prim.Native.Nat.{ℕ, zero, suc, _+_, _-_, _≤_, _<_, max}
+-- `collect`: the corners within a limit.
+use Prim.Native.Nat.{ℕ, suc, _+_, _-_, _≤_, _<_, max}
 use mathlib.Core.Path.{_≡_, refl, sym, ap, _∙_}
 use mathlib.Core.Bool.{Bool, true, false}
-use mathlib.Core.List.{List, _∷_, _++_, map, append-nil, append-assoc, []}
+use mathlib.Core.List.{List, _∷_, _++_, append-nil, []}
 use native.Mathlib.Decide.{decLe}
 use native.Mathlib.Numerals.{add-one}
 use native.Mathlib.Omega.{arith}
-use lib.ListN.{length, take, drop, getD, set, replicate, length-append, length-drop, length-set, length-map, length-replicate, take-append-drop, replicate-append-replicate}
-use lib.Seq.{take-suc, take-suc-set, take-all, take-at, length-take-le, drop-cons, drop-at, drop-drop, set-at, getD-drop, getD-set-same, getD-set-other}
+use lib.ListN.{length, take, drop, getD, set, replicate, length-drop, length-set, length-map, length-replicate, take-append-drop, replicate-append-replicate}
+use lib.Seq.{take-suc, take-suc-set, take-all, take-at, length-take-le, getD-drop, getD-set-same, getD-set-other}
 use lib.Dec.{leb}
 use borrow.Author.Tests.{lt-leb}
-use Rattle.slices.specs.Choices.{both}
+use Rattle.slices.specs.Choices.{both, pick}
+use Rattle.slices.specs.Put.{put}
+use Rattle.slices.proofs.Put.{put-then}
+use Rattle.slices.proofs.Moves.{Clearing, clearing-none, clearing-more, clearing-end}
+use native.Mathlib.Nat.{zero-add}
+use Rattle.sweep.proofs.Front.{getD-mapped}
 use Rattle.hypervolume.specs.Cells.{dominates, join}
 use Rattle.slices.proofs.Choices.{both-comm}
-use Rattle.sweep.specs.Points.{zip-points}
-use Rattle.corners.specs.Limits.{SameLength, pick, passing, corners, Collecting, CornersOn, Stands, Collected}
+use Rattle.sweep.specs.Points.{SameLength, zip-points}
+use Rattle.corners.specs.Limits.{passing, corners, Collecting, CornersOn, Stands, Collected}
 use Rattle.sweep.proofs.Coordinates.{points-length, points-at, ascending-at, three}
-use Rattle.corners.proofs.Keeping.{corner-within}
-
--- One more point.
-passing-more : (test : List ℕ → Bool) (trials : List (List ℕ)) (t : List ℕ) → passing test (trials ++ (t ∷ [])) ≡ passing test trials ++ pick (test t) t []
-unfolding passing
-passing-more test [] t = refl
-passing-more test (s ∷ trials) t = go (test s) (passing-more test trials t)
-  where
-    go : (b : Bool) → passing test (trials ++ (t ∷ [])) ≡ passing test trials ++ pick (test t) t [] → pick b s (passing test (trials ++ (t ∷ []))) ≡ pick b s (passing test trials) ++ pick (test t) t []
-    go true e = ap (λ l. s ∷ l) e
-    go false e = e
+use Rattle.corners.proofs.Passing.{corner-within, passing-append, passing-none}
 
 points-more : (xs ys zs : List ℕ) (x y z : ℕ) → length ys ≡ length xs → length zs ≡ length xs → zip-points (xs ++ (x ∷ [])) (ys ++ (y ∷ [])) (zs ++ (z ∷ [])) ≡ zip-points xs ys zs ++ ((x ∷ y ∷ z ∷ []) ∷ [])
 unfolding zip-points
@@ -41,14 +36,9 @@ points-more (a ∷ xs) (b ∷ ys) (c ∷ zs) x y z e f = ap (λ l. (a ∷ b ∷ 
 pub corners-length : {xs ys zs : List ℕ} (u : List ℕ) → SameLength xs ys zs → length (corners u xs ys zs) ≡ length xs
 corners-length {xs} {ys} {zs} u a = length-map (zip-points xs ys zs) (join u) ∙ points-length xs ys zs (a .ys-many) (a .zs-many)
 
-getD-corner : (u : List ℕ) (trials : List (List ℕ)) (j : ℕ) → j < length trials → getD (map (join u) trials) j [] ≡ join u (getD trials j [])
-getD-corner u [] j l = absurd (let no′ : ⊥ = omega arith in no′)
-getD-corner u (t ∷ trials) zero l = refl
-getD-corner u (t ∷ trials) (suc j) l = getD-corner u trials j (omega arith)
-
 pub corner-at : {xs ys zs : List ℕ} (u : List ℕ) → SameLength xs ys zs → (j : ℕ) → j < length xs → getD (corners u xs ys zs) j [] ≡ join u (getD xs j 0 ∷ getD ys j 0 ∷ getD zs j 0 ∷ [])
 corner-at {xs} {ys} {zs} u a j l =
-    getD-corner u (zip-points xs ys zs) j (omega (arith, points-length xs ys zs (a .ys-many) (a .zs-many)))
+    getD-mapped (join u) [] [] (zip-points xs ys zs) j (omega (arith, points-length xs ys zs (a .ys-many) (a .zs-many)))
     ∙ ap (join u) (points-at xs ys zs j (a .ys-many) (a .zs-many) l)
 
 -- The loop. u is given by its coordinates.
@@ -59,13 +49,12 @@ pub record Gathering (xs ys zs limit kx₀ ky₀ kz₀ places₀ out₀ : List �
   pub ky-long : length ky ≡ length ky₀
   pub kz-long : length kz ≡ length kz₀
   pub places-long : length places ≡ length places₀
-  pub out-long : length out ≡ length out₀
-  pub cleared : out ≡ replicate i 0 ++ drop i out₀
+  pub cleared : Clearing out₀ 0 (length xs) i out
   pub collected : Collected xs ys zs (ux ∷ uy ∷ uz ∷ []) limit i kx ky kz places m
 
 pub gathering-none : {xs ys zs limit kx ky kz places out : List ℕ} (u : List ℕ) → length u ≡ 3 → Collecting xs ys zs u limit kx ky kz places out → Gathering xs ys zs limit kx ky kz places out (getD u 0 0) (getD u 1 0) (getD u 2 0) kx ky kz places out 0 0
 unfolding zip-points passing
-gathering-none u e h =
+gathering-none {xs} {out = out} u e h =
     record {
       asked = rw (three u e) h;
       within = omega arith;
@@ -73,8 +62,7 @@ gathering-none u e h =
       ky-long = refl;
       kz-long = refl;
       places-long = refl;
-      out-long = refl;
-      cleared = refl;
+      cleared = clearing-none out 0 (length xs) (omega (arith, h .out-room));
       collected =
           record {
             few = omega arith;
@@ -100,76 +88,29 @@ corners-on-more u src places ks m i v h p q e k l = go (decLe (suc k) m)
         let last : k ≡ m = omega arith in
         rw (last, getD-set-same ks m v 0 q, getD-set-same places m i 0 p) e
 
--- One more count cleared.
-further : (n v : ℕ) (rest : List ℕ) → replicate n v ++ (v ∷ rest) ≡ replicate (suc n) v ++ rest
-further zero v rest = refl
-further (suc n) v rest = ap (λ l. v ∷ l) (further n v rest)
-
-cleared-more : (i : ℕ) (old out : List ℕ) → i < length old → out ≡ replicate i 0 ++ drop i old → set out i 0 ≡ replicate (i + 1) 0 ++ drop (i + 1) old
-cleared-more i old out l e =
-    rw (e, drop-cons old i 0 l, add-one i, set-at (replicate i 0) (getD old i 0) (drop (suc i) old) 0 i (length-replicate i 0))
-    (further i 0 (drop (suc i) old))
-
--- The loop of clear.
-pub record Clearing (old : List ℕ) (from to : ℕ) (out : List ℕ) (i : ℕ) : Type 0 where
-  pub begun : from ≤ i
-  pub within : i ≤ to
-  pub room : to ≤ length old
-  pub long : length out ≡ length old
-  pub is : out ≡ take from old ++ (replicate (i - from) 0 ++ drop i old)
-
-pub clearing-none : (old : List ℕ) (from to : ℕ) → from ≤ to → to ≤ length old → Clearing old from to old from
-clearing-none old from to l m =
-    let none : from - from ≡ 0 = omega arith in
-    record {
-      begun = omega arith;
-      within = l;
-      room = m;
-      long = refl;
-      is = rw none (sym (take-append-drop from old));
-    }
-
-pub clearing-more : {old : List ℕ} {from to : ℕ} {out : List ℕ} {i : ℕ} → Clearing old from to out i → i < to → Clearing old from to (set out i 0) (i + 1)
-clearing-more {old} {from} {to} {out} {i} h l =
-    record {
-      begun = omega (arith, h .begun);
-      within = omega arith;
-      room = h .room;
-      long = length-set out i 0 ∙ h .long;
-      is = is;
-    }
+-- Clearing broken off, and all that is left cleared at once.
+clearing-rest : {old now now′ : List ℕ} {n i : ℕ} → Clearing old 0 n i now → now′ ≡ put now i (replicate (n - i) 0) → now′ ≡ put old 0 (replicate n 0)
+clearing-rest {old} {now} {now′} {n} {i} h e =
+    e
+    ∙ ap (λ l. put l i rest) (h .done .is)
+    ∙ ap (λ k. put (put old 0 first) k rest) (let start : i ≡ 0 + length first = omega (arith, first-long) in start)
+    ∙ put-then old 0 first rest (omega (arith, first-long, h .part, h .room))
+    ∙ ap (put old 0) (ap (λ f. f ++ rest) first-is ∙ whole)
   where
-    n : ℕ
-    n = i - from
-
-    more : i + 1 - from ≡ suc n
-    more = omega (arith, h .begun)
-
     first : List ℕ
-    first = take from old ++ replicate n 0
+    first = take i (replicate n 0)
+
+    rest : List ℕ
+    rest = replicate (n - i) 0
+
+    whole : replicate i 0 ++ rest ≡ replicate n 0
+    whole = replicate-append-replicate i (n - i) 0 ∙ ap (λ k. replicate k 0) (let all : i + (n - i) ≡ n = omega (arith, h .part) in all)
+
+    first-is : first ≡ replicate i 0
+    first-is = ap (take i) (sym whole) ∙ take-at (replicate i 0) rest i (length-replicate i 0)
 
     first-long : length first ≡ i
-    first-long =
-        length-append (take from old) (replicate n 0)
-        ∙ rw (length-take-le from old (omega (arith, h .begun, h .room)), length-replicate {A = ℕ} n 0) (omega (arith, h .begun))
-
-    before : out ≡ first ++ (getD old i 0 ∷ drop (suc i) old)
-    before =
-        h .is
-        ∙ rw (drop-cons old i 0 (omega (arith, h .room)))
-        (sym (append-assoc (take from old) (replicate n 0) (getD old i 0 ∷ drop (suc i) old)))
-
-    is : set out i 0 ≡ take from old ++ (replicate (i + 1 - from) 0 ++ drop (i + 1) old)
-    is =
-        ap (λ o. set o i 0) before
-        ∙ set-at first (getD old i 0) (drop (suc i) old) 0 i first-long
-        ∙ append-assoc (take from old) (replicate n 0) (0 ∷ drop (suc i) old)
-        ∙ rw (more, add-one i) (ap (λ r. take from old ++ r) (further n 0 (drop (suc i) old)))
-
-pub clearing-end : {old : List ℕ} {from to : ℕ} {out : List ℕ} {i : ℕ} → Clearing old from to out i → to ≤ i → out ≡ take from old ++ (replicate (to - from) 0 ++ drop to old)
-clearing-end {old} {from} {to} {out} {i} h l =
-    let end : i ≡ to = omega (arith, h .within) in
-    rw end at (h .is)
+    first-long = ap length first-is ∙ length-replicate i 0
 
 -- A turn.
 module _ {xs ys zs limit kx₀ ky₀ kz₀ places₀ out₀ : List ℕ} {ux uy uz : ℕ} {kx ky kz places out : List ℕ} {m i : ℕ} (h : Gathering xs ys zs limit kx₀ ky₀ kz₀ places₀ out₀ ux uy uz kx ky kz places out m i) (l : i < length xs) where
@@ -189,14 +130,19 @@ module _ {xs ys zs limit kx₀ ky₀ kz₀ places₀ out₀ : List ℕ} {ux uy u
   next =
       rw (add-one i, take-suc (corners u xs ys zs) i [] (omega (arith, corners-length u (h .asked .alike))), here)
 
+  cleared-next : Clearing out₀ 0 (length xs) (i + 1) (set out i 0)
+  cleared-next = rw (zero-add i) at (clearing-more (h .cleared) l)
+
   tested : dominates (join u p) limit ≡ dominates p limit
   tested = corner-within u p limit (h .asked .above)
 
-  passing-next : (t : Bool) → dominates p limit ≡ t → passing (λ t. dominates t limit) (take (i + 1) (corners u xs ys zs)) ≡ passing (λ t. dominates t limit) (take i (corners u xs ys zs)) ++ pick t (join u p) []
+  passing-next : (t : Bool) → dominates p limit ≡ t → passing (λ t. dominates t limit) (take (i + 1) (corners u xs ys zs)) ≡ passing (λ t. dominates t limit) (take i (corners u xs ys zs)) ++ pick t (join u p ∷ []) []
+  unfolding passing
   passing-next t e =
-      rw (next, passing-more (λ t. dominates t limit) (take i (corners u xs ys zs)) (join u p), tested, e)
+      rw (next, passing-append (λ t. dominates t limit) (take i (corners u xs ys zs)) (join u p ∷ []), tested, e)
 
   pub gathering-skip : dominates p limit ≡ false → Gathering xs ys zs limit kx₀ ky₀ kz₀ places₀ out₀ ux uy uz kx ky kz places (set out i 0) m (i + 1)
+  unfolding pick
   gathering-skip e =
       record {
         asked = h .asked;
@@ -205,8 +151,7 @@ module _ {xs ys zs limit kx₀ ky₀ kz₀ places₀ out₀ : List ℕ} {ux uy u
         ky-long = h .ky-long;
         kz-long = h .kz-long;
         places-long = h .places-long;
-        out-long = length-set out i 0 ∙ h .out-long;
-        cleared = cleared-more i out₀ out (omega (arith, h .asked .out-room)) (h .cleared);
+        cleared = cleared-next;
         collected =
             record {
               few = omega (arith, old .few);
@@ -228,7 +173,7 @@ module _ {xs ys zs limit kx₀ ky₀ kz₀ places₀ out₀ : List ℕ} {ux uy u
           absurd (let z : _≡_ {A = ℕ} 0 1 = cc in omega arith)
 
   pub gathering-more : {vx vy vz : ℕ} → dominates p limit ≡ true → vx ≡ max ux (getD xs i 0) → vy ≡ max uy (getD ys i 0) → vz ≡ max uz (getD zs i 0) → Gathering xs ys zs limit kx₀ ky₀ kz₀ places₀ out₀ ux uy uz (set kx m vx) (set ky m vy) (set kz m vz) (set places m i) (set out i 0) (m + 1) (i + 1)
-  unfolding join
+  unfolding join pick
   gathering-more {vx} {vy} {vz} e ex ey ez =
       record {
         asked = h .asked;
@@ -237,8 +182,7 @@ module _ {xs ys zs limit kx₀ ky₀ kz₀ places₀ out₀ : List ℕ} {ux uy u
         ky-long = length-set ky m vy ∙ h .ky-long;
         kz-long = length-set kz m vz ∙ h .kz-long;
         places-long = length-set places m i ∙ h .places-long;
-        out-long = length-set out i 0 ∙ h .out-long;
-        cleared = cleared-more i out₀ out (omega (arith, h .asked .out-room)) (h .cleared);
+        cleared = cleared-next;
         collected =
             record {
               few = omega (arith, old .few);
@@ -303,25 +247,10 @@ module _ {xs ys zs limit kx₀ ky₀ kz₀ places₀ out₀ : List ℕ} {ux uy u
             here = getD-set-same places m i 0 places-room ∙ omega arith;
           }
 
-pub gathering-end : {xs ys zs limit kx₀ ky₀ kz₀ places₀ out₀ kx ky kz places out : List ℕ} {m i : ℕ} (u : List ℕ) → length u ≡ 3 → Gathering xs ys zs limit kx₀ ky₀ kz₀ places₀ out₀ (getD u 0 0) (getD u 1 0) (getD u 2 0) kx ky kz places out m i → length xs ≤ i → Collected xs ys zs u limit (length xs) kx ky kz places m × (out ≡ replicate (length xs) 0 ++ drop (length xs) out₀)
+pub gathering-end : {xs ys zs limit kx₀ ky₀ kz₀ places₀ out₀ kx ky kz places out : List ℕ} {m i : ℕ} (u : List ℕ) → length u ≡ 3 → Gathering xs ys zs limit kx₀ ky₀ kz₀ places₀ out₀ (getD u 0 0) (getD u 1 0) (getD u 2 0) kx ky kz places out m i → length xs ≤ i → Collected xs ys zs u limit (length xs) kx ky kz places m × (out ≡ put out₀ 0 (replicate (length xs) 0))
 gathering-end {xs} {i = i} u e h l =
     let whole : i ≡ length xs = omega (arith, h .within) in
-    (rw (three u e, whole) at (h .collected), rw whole at (h .cleared))
-
--- Past the limit on z.
-passing-append : (test : List ℕ → Bool) (s t : List (List ℕ)) → passing test (s ++ t) ≡ passing test s ++ passing test t
-unfolding passing
-passing-append test [] t = refl
-passing-append test (a ∷ s) t = go (test a) (passing-append test s t)
-  where
-    go : (b : Bool) → passing test (s ++ t) ≡ passing test s ++ passing test t → pick b a (passing test (s ++ t)) ≡ pick b a (passing test s) ++ passing test t
-    go true e = ap (λ l. a ∷ l) e
-    go false e = e
-
-passing-none : (test : List ℕ → Bool) (t : List (List ℕ)) → ((j : ℕ) → j < length t → test (getD t j []) ≡ false) → passing test t ≡ []
-unfolding passing
-passing-none test [] h = refl
-passing-none test (a ∷ t) h = rw (h 0 (omega arith)) (passing-none test t (λ j l. h (suc j) (omega arith)))
+    (rw (three u e, whole) at (h .collected), clearing-end (h .cleared) l)
 
 past : (x y z : ℕ) (limit : List ℕ) → length limit ≡ 3 → getD limit 2 0 < z → dominates (x ∷ y ∷ z ∷ []) limit ≡ false
 unfolding dominates both
@@ -373,22 +302,5 @@ module _ {xs ys zs limit kx₀ ky₀ kz₀ places₀ out₀ : List ℕ} {ux uy u
           let never : false ≡ true = sym (none-within j (omega arith) q) ∙ d in
           absurd (let z : _≡_ {A = ℕ} 0 1 = cc in omega arith)
 
-  cleared-all : {out′ : List ℕ} → out′ ≡ take i out ++ (replicate (length xs - i) 0 ++ drop (length xs) out) → out′ ≡ replicate (length xs) 0 ++ drop (length xs) out₀
-  cleared-all {out′} e =
-      let first : take i out ≡ replicate i 0 =
-      ap (take i) (h .cleared) ∙ take-at (replicate i 0) (drop i out₀) i (length-replicate {A = ℕ} i 0) in
-      let split : length xs ≡ i + (length xs - i) = omega arith in
-      let behind : drop (length xs) out ≡ drop (length xs) out₀ =
-      ap (λ k. drop k out) split
-      ∙ sym (drop-drop (length xs - i) i out)
-      ∙ ap (drop (length xs - i)) (ap (drop i) (h .cleared) ∙ drop-at (replicate i 0) (drop i out₀) i (length-replicate {A = ℕ} i 0))
-      ∙ drop-drop (length xs - i) i out₀
-      ∙ ap (λ k. drop k out₀) (sym split) in
-      let zeros : replicate {A = ℕ} i 0 ++ replicate (length xs - i) 0 ≡ replicate (length xs) 0 =
-      replicate-append-replicate i (length xs - i) 0 ∙ ap (λ k. replicate k 0) (sym split) in
-      e
-      ∙ rw (first, behind) (sym (append-assoc (replicate i 0) (replicate (length xs - i) 0) (drop (length xs) out₀)))
-      ∙ ap (λ r. r ++ drop (length xs) out₀) zeros
-
-pub gathering-stop : {xs ys zs limit kx₀ ky₀ kz₀ places₀ out₀ kx ky kz places out out′ : List ℕ} {m i : ℕ} (u : List ℕ) → length u ≡ 3 → length limit ≡ 3 → Gathering xs ys zs limit kx₀ ky₀ kz₀ places₀ out₀ (getD u 0 0) (getD u 1 0) (getD u 2 0) kx ky kz places out m i → i < length xs → getD limit 2 0 < getD zs i 0 → out′ ≡ take i out ++ (replicate (length xs - i) 0 ++ drop (length xs) out) → Collected xs ys zs u limit (length xs) kx ky kz places m × (out′ ≡ replicate (length xs) 0 ++ drop (length xs) out₀)
-gathering-stop u e f h l b c = (rw (three u e) at (stopped h f l b), cleared-all h f l b c)
+pub gathering-stop : {xs ys zs limit kx₀ ky₀ kz₀ places₀ out₀ kx ky kz places out out′ : List ℕ} {m i : ℕ} (u : List ℕ) → length u ≡ 3 → length limit ≡ 3 → Gathering xs ys zs limit kx₀ ky₀ kz₀ places₀ out₀ (getD u 0 0) (getD u 1 0) (getD u 2 0) kx ky kz places out m i → i < length xs → getD limit 2 0 < getD zs i 0 → out′ ≡ put out i (replicate (length xs - i) 0) → Collected xs ys zs u limit (length xs) kx ky kz places m × (out′ ≡ put out₀ 0 (replicate (length xs) 0))
+gathering-stop u e f h l b c = (rw (three u e) at (stopped h f l b), clearing-rest (h .cleared) c)
