@@ -83,8 +83,8 @@ module _ {u xs ys zs r out limit kx ky kz places : List ℕ} {m : ℕ} (h : Prep
   pub places-many : length (take m places) ≡ m
   places-many = length-take-le m places (omega (arith, few, h .places-long))
 
-  alike : SameLength xs ys zs
-  alike = record { ys-many = h .ready .ys-many; zs-many = h .ready .zs-many }
+  same-length : SameLength xs ys zs
+  same-length = record { ys-many = h .ready .ys-many; zs-many = h .ready .zs-many }
 
   pub prepared-ready : {counts : List ℕ} → length counts ≡ 512 → Ready (take m kx) (take m ky) (take m kz) r counts
   prepared-ready e =
@@ -104,7 +104,7 @@ module _ {u xs ys zs r out limit kx ky kz places : List ℕ} {m : ℕ} (h : Prep
 
   -- The corners collected are those within the limits.
   passing-all : some ≡ passing test all
-  passing-all = h .collected .all ∙ ap (passing test) (take-all (length xs) all (omega (arith, corners-length u alike)))
+  passing-all = h .collected .all ∙ ap (passing test) (take-all (length xs) all (omega (arith, corners-length u same-length)))
 
   -- The others may be left out.
   point-small : (j a : ℕ) → getD (getD xs j 0 ∷ getD ys j 0 ∷ getD zs j 0 ∷ []) a 0 ≤ 1048576
@@ -115,8 +115,8 @@ module _ {u xs ys zs r out limit kx ky kz places : List ℕ} {m : ℕ} (h : Prep
 
   left-out : (j : ℕ) → j < length all → test (getD all j []) ≡ false → Twice (passing test all) (getD all j [])
   left-out j l e =
-      let here : j < length xs = omega (arith, corners-length u alike) in
-      let corner = corner-at u alike j here in
+      let here : j < length xs = omega (arith, corners-length u same-length) in
+      let corner = corner-at u same-length j here in
       rw corner
       (limit-twice (h .limits) long (getD xs j 0 ∷ getD ys j 0 ∷ getD zs j 0 ∷ []) (point-small j) (rw corner at e))
     where
@@ -147,7 +147,7 @@ module _ {u xs ys zs r out limit kx ky kz places : List ℕ} {m : ℕ} (h : Prep
       points-at (take m kx) (take m ky) (take m kz) k (ky-many ∙ sym kx-many) (kz-many ∙ sym kx-many) (omega (arith, kx-many))
       ∙ rw (getD-take m kx k 0 l, getD-take m ky k 0 l, getD-take m kz k 0 l, h .collected .x k l, h .collected .y k l, h .collected .z k l)
       (ap (λ v. join v (getD xs (getD places k 0) 0 ∷ getD ys (getD places k 0) 0 ∷ getD zs (getD places k 0) 0 ∷ [])) (three u (h .axes)))
-      ∙ sym (corner-at u alike (getD places k 0) (h .collected .inside k l))
+      ∙ sym (corner-at u same-length (getD places k 0) (h .collected .inside k l))
 
   -- What the sweep leaves, and the counts cleared before it.
   module _ (blank : List ℕ) {counts left : List ℕ} (e : counts ≡ contributions r some ++ drop (length (take m kx)) blank) (f : left ≡ put out 0 (replicate (length xs) 0)) where
@@ -218,19 +218,19 @@ module _ {u xs ys zs r out limit kx ky kz places : List ℕ} {m : ℕ} (h : Prep
               here = getD-take m places (s .k) 0 (s .within) ∙ s .here;
             })
         every j l false q =
-            inl (left-zero j l ∙ sym (failing-contribution r test all left-out j (omega (arith, corners-length u alike)) q))
+            inl (left-zero j l ∙ sym (failing-contribution r test all left-out j (omega (arith, corners-length u same-length)) q))
 
     joints-at : (j : ℕ) → j < length xs → getD (joints r (zip-points xs ys zs) u) j 0 ≡ due j
     unfolding contributions
     joints-at j l =
         rw (← (corners-joints r u (zip-points xs ys zs)))
-        (getD-mapped (λ t. contribution r all t) [] 0 all j (omega (arith, corners-length u alike)))
+        (getD-mapped (λ t. contribution r all t) [] 0 all j (omega (arith, corners-length u same-length)))
 
     joints-many : length (joints r (zip-points xs ys zs) u) ≡ length xs
     unfolding contributions
     joints-many =
         rw (← (corners-joints r u (zip-points xs ys zs)))
-        (length-map all (λ t. contribution r all t) ∙ corners-length u alike)
+        (length-map all (λ t. contribution r all t) ∙ corners-length u same-length)
 
     pub prepared-joints : {end : List ℕ} → end ≡ spread left (take m places) (take m counts) → end ≡ joints r (zip-points xs ys zs) u ++ drop (length xs) out
     prepared-joints {end} q =

@@ -44,7 +44,7 @@ corners u xs ys zs = map (join u) (zip-points xs ys zs)
 -- What collecting the corners within a limit asks: points in ascending order of z, and room for all.
 pub record Collecting (xs ys zs u limit kx ky kz places out : List ℕ) : Type 0 where
   pub few : length xs ≤ 512
-  pub alike : SameLength xs ys zs
+  pub same-length : SameLength xs ys zs
   pub rising : Ascending zs
   pub above : dominates u limit ≡ true
   pub kx-room : length xs ≤ length kx

@@ -10,6 +10,24 @@ use Rattle.hypervolume.proofs.Axes.{swapAt, total-swap, contribution-swap}
 use Rattle.sweep.specs.Points.{zip-points, Ascending}
 use native.Mathlib.Decide.{decLe}
 
+-- A list of three numbers.
+pub three : (r : List ℕ) → length r ≡ 3 → getD r 0 0 ∷ getD r 1 0 ∷ getD r 2 0 ∷ [] ≡ r
+three [] e = absurd (let no′ : ⊥ = omega arith in no′)
+three (a ∷ []) e = absurd (let no′ : ⊥ = omega arith in no′)
+three (a ∷ b ∷ []) e = absurd (let no′ : ⊥ = omega arith in no′)
+three (a ∷ b ∷ c ∷ []) e = refl
+three (a ∷ b ∷ c ∷ d ∷ r) e = absurd (let no′ : ⊥ = omega arith in no′)
+
+-- Of any two places the earlier holds at most the later.
+pub ascending-at : (l : List ℕ) → Ascending l → (a b : ℕ) → a ≤ b → b < length l → getD l a 0 ≤ getD l b 0
+ascending-at l h a zero p q = let none : a ≡ 0 = omega arith in rw none (omega arith)
+ascending-at l h a (suc b) p q = go (decLe a b) (ascending-at l h a b)
+  where
+    go : Dec (a ≤ b) → (a ≤ b → b < length l → getD l a 0 ≤ getD l b 0) → getD l a 0 ≤ getD l (suc b) 0
+    go (yes m) earlier = omega (arith, earlier m (let n : b < length l = omega arith in n), h b q)
+    go (no m) earlier = let same : a ≡ suc b = omega arith in rw same (omega arith)
+
+-- The points of three lists.
 pub points-length : (xs ys zs : List ℕ) → length ys ≡ length xs → length zs ≡ length xs → length (zip-points xs ys zs) ≡ length xs
 unfolding zip-points
 points-length [] ys zs e f = refl
@@ -46,20 +64,3 @@ contribution-turned rx ry rz xs ys zs x y z =
     rw (← (points-turned xs ys zs))
     (contribution-swap [] (ry ∷ []) rx rz (map (swapAt 1) (zip-points xs ys zs)) (x ∷ z ∷ y ∷ [])
     ∙ contribution-swap (rx ∷ []) [] ry rz (zip-points xs ys zs) (x ∷ y ∷ z ∷ []))
-
--- Of any two places the earlier holds at most the later.
-pub ascending-at : (l : List ℕ) → Ascending l → (a b : ℕ) → a ≤ b → b < length l → getD l a 0 ≤ getD l b 0
-ascending-at l h a zero p q = let none : a ≡ 0 = omega arith in rw none (omega arith)
-ascending-at l h a (suc b) p q = go (decLe a b) (ascending-at l h a b)
-  where
-    go : Dec (a ≤ b) → (a ≤ b → b < length l → getD l a 0 ≤ getD l b 0) → getD l a 0 ≤ getD l (suc b) 0
-    go (yes m) earlier = omega (arith, earlier m (let n : b < length l = omega arith in n), h b q)
-    go (no m) earlier = let same : a ≡ suc b = omega arith in rw same (omega arith)
-
--- a list of three numbers
-pub three : (r : List ℕ) → length r ≡ 3 → getD r 0 0 ∷ getD r 1 0 ∷ getD r 2 0 ∷ [] ≡ r
-three [] e = absurd (let no′ : ⊥ = omega arith in no′)
-three (a ∷ []) e = absurd (let no′ : ⊥ = omega arith in no′)
-three (a ∷ b ∷ []) e = absurd (let no′ : ⊥ = omega arith in no′)
-three (a ∷ b ∷ c ∷ []) e = refl
-three (a ∷ b ∷ c ∷ d ∷ r) e = absurd (let no′ : ⊥ = omega arith in no′)

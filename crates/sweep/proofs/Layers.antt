@@ -99,7 +99,7 @@ module _ (x y index : ℕ) (y-small : y ≤ 1048576) (index-small : index < 512)
 
 -- The line stands for the points passed, z first, each with its index in the list.
 pub record LineFor (ry : ℕ) (trials : List (List ℕ)) (line : List ℕ) : Type 0 where
-  pub kept : ValidLine line
+  pub valid : ValidLine line
   pub all : LineCovers ry line (map rest trials)
   pub each : (j : ℕ) → j < length trials → LineCoversAt ry j line (rest (getD trials j []))
   pub below : Below (length trials) line
@@ -108,7 +108,7 @@ pub line-for-none : (ry : ℕ) → LineFor ry [] []
 unfolding LineCovers over tally cover Below Rising Flagged
 line-for-none ry =
     record {
-      kept = record { rising = tt; flags = tt };
+      valid = record { rising = tt; flags = tt };
       all = λ i j l. refl;
       each = λ j l. absurd (let no′ : ⊥ = omega arith in no′);
       below = tt;
@@ -136,7 +136,7 @@ module _ {ry : ℕ} {trials : List (List ℕ)} {line : List ℕ} (h : LineFor ry
       rw (map-append rest trials (p ∷ []), cover-append (map rest trials) ((x ∷ y ∷ []) ∷ []) c)
       (ap (λ k. cover (map rest trials) c + k) (add-zero (holds (dominates (x ∷ y ∷ []) c))))
 
-  module _ {left : List ℕ} (kept : ValidLine left) (alike : Alike ry (entry-of x y (length trials) ∷ line) left) (below′ : Below (suc (length trials)) left) where
+  module _ {left : List ℕ} (valid : ValidLine left) (alike : Alike ry (entry-of x y (length trials) ∷ line) left) (below′ : Below (suc (length trials)) left) where
     -- where at most one entry is over a cell now, at most one was before
     few-before : (i j : ℕ) → j < ry → over left (i ∷ j ∷ []) ≤ 1 → over (w ∷ line) (i ∷ j ∷ []) ≤ 1
     few-before i j l m = omega (arith, alike i j l .many)
@@ -162,7 +162,7 @@ module _ {ry : ℕ} {trials : List (List ℕ)} {line : List ℕ} (h : LineFor ry
     unfolding LineCovers p
     line-for-more =
         record {
-          kept = kept;
+          valid = valid;
           all = λ i j l.
               let before : min (over line (i ∷ j ∷ [])) 2 ≡ min (cover (map rest trials) (i ∷ j ∷ [])) 2 = h .all i j l in
               omega (arith, alike i j l .many, over-more (i ∷ j ∷ []), cover-next (i ∷ j ∷ []));

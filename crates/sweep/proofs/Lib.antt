@@ -1,7 +1,7 @@
 -- Laws that several functions use. Tally: entries of the line counted. Coordinates, Layers and SweepLaws: from the pass along the
 -- line to the counts of `hypervolume`. Front: the counts in the slice that the caller lends.
-pub mod Tally
+mod Tally
 pub mod Coordinates
 pub mod Front
-pub mod Layers
-pub mod SweepLaws
+mod Layers
+mod SweepLaws

@@ -32,7 +32,7 @@ pub record Progress (xs ys zs out : List ℕ) (rx ry rz i held volume : ℕ) (li
   pub alike : length left ≡ length out
   pub counted : volume ≡ total (rz ∷ rx ∷ ry ∷ []) (take i (zip-points zs xs ys))
   pub each : (j : ℕ) → j < i → getD left j 0 ≡ contribution (rz ∷ rx ∷ ry ∷ []) (take i (zip-points zs xs ys)) (getD (zip-points zs xs ys) j [])
-  pub kept : (j : ℕ) → i ≤ j → getD left j 0 ≡ getD out j 0
+  pub behind : (j : ℕ) → i ≤ j → getD left j 0 ≡ getD out j 0
   pub few : held ≤ i
   pub lined : LineFor ry (take i (zip-points zs xs ys)) (take held line)
 
@@ -45,7 +45,7 @@ progress-none {xs} {ys} {zs} {r} {out} h e f =
       alike = refl;
       counted = sym (total-none (getD r 2 0 ∷ getD r 0 0 ∷ getD r 1 0 ∷ []));
       each = λ j l. absurd (let no′ : ⊥ = omega arith in no′);
-      kept = λ j l. refl;
+      behind = λ j l. refl;
       few = omega arith;
       lined = line-for-none (getD r 1 0);
     }
@@ -116,7 +116,7 @@ module _ {xs ys zs out : List ℕ} {rx ry rz i held volume : ℕ} {line left : L
   progress-index = omega (arith, ready .few)
 
   pub progress-rising : Rising 0 (take held line)
-  progress-rising = h .lined .kept .rising
+  progress-rising = h .lined .valid .rising
 
   -- where the next point belongs, and the column there
   module _ {at : ℕ} (ranked : Ranked (take held line) (getD xs i 0) at) where
@@ -135,13 +135,13 @@ module _ {xs ys zs out : List ℕ} {rx ry rz i held volume : ℕ} {line left : L
     pub progress-flags : Flagged [] (take at line)
     progress-flags =
         rw part at
-        (flagged-front [] (take at (take held line)) (drop at (take held line)) (rw (take-append-drop at (take held line)) (h .lined .kept .flags)))
+        (flagged-front [] (take at (take held line)) (drop at (take held line)) (rw (take-append-drop at (take held line)) (h .lined .valid .flags)))
 
     pub progress-entering : {next : ℕ} → next ≡ entry-of (getD xs i 0) (getD ys i 0) i → Entering line held at next
     progress-entering {next} e =
         record {
           room = omega (arith, h .long, h .few, ready .few);
-          kept = h .lined .kept;
+          valid = h .lined .valid;
           ranked = rw (e, first-of) ranked;
           clear = rw e clear-of;
         }
@@ -209,12 +209,12 @@ module _ {xs ys zs out : List ℕ} {rx ry rz i held volume : ℕ} {line left : L
           rw (last, getD-set-same left′ i own 0 (omega (arith, g, h .alike, ready .room)), f, all-at i l, next, e, c .gained)
           (sym (next-own (h .lined) rz rx (getD zs i 0) (getD xs i 0) (getD ys i 0) under))
 
-      new-kept : (own : ℕ) → (j : ℕ) → i + 1 ≤ j → getD (set left′ i own) j 0 ≡ getD out j 0
-      new-kept own j m =
+      new-behind : (own : ℕ) → (j : ℕ) → i + 1 ≤ j → getD (set left′ i own) j 0 ≡ getD out j 0
+      new-behind own j m =
           let none : height * shared-with (rx ∷ ry ∷ []) (take held line) (getD xs i 0 ∷ getD ys i 0 ∷ []) j ≡ 0 =
           rw (shared-none j (omega arith)) (mul-zero height) in
           getD-set-other left′ i j own 0 (λ q. omega arith)
-          ∙ omega (arith, c .fallen j, h .kept j (let n : i ≤ j = omega arith in n))
+          ∙ omega (arith, c .fallen j, h .behind j (let n : i ≤ j = omega arith in n))
 
       pub progress-more : {own entry end : ℕ} {line′ : List ℕ} → own ≡ height * area → length left′ ≡ length left → entry ≡ entry-of (getD xs i 0) (getD ys i 0) i → Entered ry line held entry line′ end → length line′ ≡ length line → Progress xs ys zs out rx ry rz (i + 1) end (volume + own) line′ (set left′ i own)
       unfolding passed
@@ -226,13 +226,13 @@ module _ {xs ys zs out : List ℕ} {rx ry rz i held volume : ℕ} {line left : L
             alike = length-set left′ i own ∙ g ∙ h .alike;
             counted = rw f (sym new-total);
             each = λ j m. new-each own f g j m (decLe (suc j) i);
-            kept = new-kept own;
+            behind = new-behind own;
             few = omega (arith, p .within, h .few);
             lined =
                 rw next
                 (line-for-more (h .lined) (getD zs i 0) (getD xs i 0) (getD ys i 0) (ready .ys-small i)
                 (omega (arith, passed-many, ready .few))
-                (p .kept)
+                (p .valid)
                 (rw (passed-many, ← k) (p .alike))
                 (p .below (suc (length passed)) (below-lift (length passed) (suc (length passed)) (take held line) (omega arith) (h .lined .below))
                 (rw (k, index-is) (omega (arith, passed-many)))));
@@ -275,7 +275,7 @@ module _ {xs ys zs out : List ℕ} {rx ry rz i held volume : ℕ} {line left : L
       (front-then left counts out (h .alike)
       (omega (arith, counts-many, h .ready .room))
       (λ j m. sym (counts-at j (omega (arith, counts-many))))
-      (λ j m. h .kept j (omega (arith, counts-many, h .within))))
+      (λ j m. h .behind j (omega (arith, counts-many, h .within))))
 
 pub progress-end : {xs ys zs out : List ℕ} {i held volume : ℕ} {line left : List ℕ} (r : List ℕ) → length r ≡ 3 → Progress xs ys zs out (getD r 0 0) (getD r 1 0) (getD r 2 0) i held volume line left → length xs ≤ i → (volume ≡ total r (zip-points xs ys zs)) × (left ≡ contributions r (zip-points xs ys zs) ++ drop (length xs) out)
 progress-end r e h l = (rw (three r e) at (progress-total h l), rw (three r e) at (progress-contributions h l))

@@ -24,7 +24,7 @@ pub record ThinnedLine (front old : List ℕ) (next : ℕ) (new : List ℕ) : Ty
 pub record ThinningLine (line : List ℕ) (m at next : ℕ) : Type 0 where
   pub room : m ≤ length line
   pub within : at ≤ m
-  pub kept : ValidLine (take m line)
+  pub valid : ValidLine (take m line)
   pub beyond : (k : ℕ) → at ≤ k → k < m → x-of next ≤ x-of (getD line k 0)
 
 pub record Walked (line : List ℕ) (m at next : ℕ) (left : List ℕ) (to from : ℕ) : Type 0 where
@@ -43,12 +43,12 @@ pub record Closed (line : List ℕ) (to from m : ℕ) (left : List ℕ) (end : �
 -- The next point: what entering it asks, and what it leaves.
 pub record Entering (line : List ℕ) (m at next : ℕ) : Type 0 where
   pub room : m < length line
-  pub kept : ValidLine (take m line)
+  pub valid : ValidLine (take m line)
   pub ranked : Ranked (take m line) (x-of next) at
   pub clear : flag-of next ≡ 0
 
 pub record Entered (ry : ℕ) (line : List ℕ) (m next : ℕ) (left : List ℕ) (end : ℕ) : Type 0 where
   pub within : end ≤ m + 1
-  pub kept : ValidLine (take end left)
+  pub valid : ValidLine (take end left)
   pub alike : Alike ry (next ∷ take m line) (take end left)
   pub below : (n : ℕ) → Below n (take m line) → index-of next < n → Below n (take end left)

@@ -13,7 +13,6 @@ use Rattle.hypervolume.proofs.Tests.{holds-le-one}
 use Rattle.corners.specs.Limits.{axes-within}
 use Rattle.sweep.proofs.Coordinates.{three}
 
--- Adding up the tests of the three axes.
 pub axes-few : (x y z : ℕ) (p : List ℕ) {n : ℕ} → n ≡ axes-within x y z p → n ≤ 3
 unfolding axes-within
 axes-few x y z p e =

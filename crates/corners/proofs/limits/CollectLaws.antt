@@ -124,11 +124,11 @@ module _ {xs ys zs limit kx₀ ky₀ kz₀ places₀ out₀ : List ℕ} {ux uy u
   old = h .collected
 
   here : getD (corners u xs ys zs) i [] ≡ join u p
-  here = corner-at u (h .asked .alike) i l
+  here = corner-at u (h .asked .same-length) i l
 
   next : take (i + 1) (corners u xs ys zs) ≡ take i (corners u xs ys zs) ++ (join u p ∷ [])
   next =
-      rw (add-one i, take-suc (corners u xs ys zs) i [] (omega (arith, corners-length u (h .asked .alike))), here)
+      rw (add-one i, take-suc (corners u xs ys zs) i [] (omega (arith, corners-length u (h .asked .same-length))), here)
 
   cleared-next : Clearing out₀ 0 (length xs) (i + 1) (set out i 0)
   cleared-next = rw (zero-add i) at (clearing-more (h .cleared) l)
@@ -261,15 +261,15 @@ past x y z limit e l =
 module _ {xs ys zs limit kx₀ ky₀ kz₀ places₀ out₀ : List ℕ} {ux uy uz : ℕ} {kx ky kz places out : List ℕ} {m i : ℕ} (h : Gathering xs ys zs limit kx₀ ky₀ kz₀ places₀ out₀ ux uy uz kx ky kz places out m i) (three-long : length limit ≡ 3) (l : i < length xs) (beyond : getD limit 2 0 < getD zs i 0) where
   none-within : (j : ℕ) → i ≤ j → j < length xs → dominates (getD (corners (ux ∷ uy ∷ uz ∷ []) xs ys zs) j []) limit ≡ false
   none-within j n o =
-      let later : getD zs i 0 ≤ getD zs j 0 = ascending-at zs (h .asked .rising) i j n (omega (arith, h .asked .alike .zs-many)) in
-      rw (corner-at (ux ∷ uy ∷ uz ∷ []) (h .asked .alike) j o, corner-within (ux ∷ uy ∷ uz ∷ []) (getD xs j 0 ∷ getD ys j 0 ∷ getD zs j 0 ∷ []) limit (h .asked .above))
+      let later : getD zs i 0 ≤ getD zs j 0 = ascending-at zs (h .asked .rising) i j n (omega (arith, h .asked .same-length .zs-many)) in
+      rw (corner-at (ux ∷ uy ∷ uz ∷ []) (h .asked .same-length) j o, corner-within (ux ∷ uy ∷ uz ∷ []) (getD xs j 0 ∷ getD ys j 0 ∷ getD zs j 0 ∷ []) limit (h .asked .above))
       (past (getD xs j 0) (getD ys j 0) (getD zs j 0) limit three-long (omega arith))
 
   abbrev all′ : List (List ℕ)
   all′ = corners (ux ∷ uy ∷ uz ∷ []) xs ys zs
 
   long′ : length all′ ≡ length xs
-  long′ = corners-length (ux ∷ uy ∷ uz ∷ []) (h .asked .alike)
+  long′ = corners-length (ux ∷ uy ∷ uz ∷ []) (h .asked .same-length)
 
   none-behind : passing (λ t. dominates t limit) (take (length xs) all′) ≡ passing (λ t. dominates t limit) (take i all′)
   none-behind =

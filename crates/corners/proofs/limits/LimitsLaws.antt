@@ -153,7 +153,7 @@ limits-later {passed} {u} {limit} more h =
 
 -- The pass over the points.
 pub record Bounding (xs ys zs : List ℕ) (ux uy uz : ℕ) (on-x on-y on-z : Two) (limit : List ℕ) (i : ℕ) : Type 0 where
-  pub alike : SameLength xs ys zs
+  pub same-length : SameLength xs ys zs
   pub within : i ≤ length xs
   pub x : TwoLeast (take i (zip-points xs ys zs)) (ux ∷ uy ∷ uz ∷ []) 0 on-x
   pub y : TwoLeast (take i (zip-points xs ys zs)) (ux ∷ uy ∷ uz ∷ []) 1 on-y
@@ -163,7 +163,7 @@ pub record Bounding (xs ys zs : List ℕ) (ux uy uz : ℕ) (on-x on-y on-z : Two
 pub bounding-none : {xs ys zs : List ℕ} (u : List ℕ) → SameLength xs ys zs → Small u → Bounding xs ys zs (getD u 0 0) (getD u 1 0) (getD u 2 0) (record { least = 1048576; second = 1048576 }) (record { least = 1048576; second = 1048576 }) (record { least = 1048576; second = 1048576 }) (1048576 ∷ 1048576 ∷ 1048576 ∷ []) 0
 bounding-none u a s =
     record {
-      alike = a;
+      same-length = a;
       within = omega arith;
       x = none 0;
       y = none 1;
@@ -188,17 +188,17 @@ module _ {xs ys zs : List ℕ} {ux uy uz : ℕ} {on-x on-y on-z : Two} {limit : 
   p = px ∷ py ∷ pz ∷ []
 
   many : length (zip-points xs ys zs) ≡ length xs
-  many = points-length xs ys zs (h .alike .ys-many) (h .alike .zs-many)
+  many = points-length xs ys zs (h .same-length .ys-many) (h .same-length .zs-many)
 
   next : i < length xs → take (i + 1) (zip-points xs ys zs) ≡ take i (zip-points xs ys zs) ++ (p ∷ [])
   next l =
-      rw (add-one i, take-suc (zip-points xs ys zs) i [] (omega (arith, many)), points-at xs ys zs i (h .alike .ys-many) (h .alike .zs-many) l)
+      rw (add-one i, take-suc (zip-points xs ys zs) i [] (omega (arith, many)), points-at xs ys zs i (h .same-length .ys-many) (h .same-length .zs-many) l)
 
   -- A point may be passed over.
   pub bounding-skip : i < length xs → Bounding xs ys zs ux uy uz on-x on-y on-z limit (i + 1)
   bounding-skip l =
       record {
-        alike = h .alike;
+        same-length = h .same-length;
         within = omega arith;
         x = rw (next l) (two-least-later p (h .x));
         y = rw (next l) (two-least-later p (h .y));
@@ -209,7 +209,7 @@ module _ {xs ys zs : List ℕ} {ux uy uz : ℕ} {on-x on-y on-z : Two} {limit : 
   pub bounding-more : {ox oy oz nx ny nz : ℕ} {on-x′ on-y′ on-z′ : Two} → i < length xs → ox ≡ offer (both (leb py uy) (leb pz uz)) px → on-x′ ≡ two-with on-x ox → oy ≡ offer (both (leb px ux) (leb pz uz)) py → on-y′ ≡ two-with on-y oy → oz ≡ offer (both (leb px ux) (leb py uy)) pz → on-z′ ≡ two-with on-z oz → nx ≡ max ux (on-x′ .second) → ny ≡ max uy (on-y′ .second) → nz ≡ max uz (on-z′ .second) → Bounding xs ys zs ux uy uz on-x′ on-y′ on-z′ (nx ∷ ny ∷ nz ∷ []) (i + 1)
   bounding-more {ox} {oy} {oz} {on-x′ = on-x′} {on-y′} {on-z′} l fx ex fy ey fz ez gx gy gz =
       record {
-        alike = h .alike;
+        same-length = h .same-length;
         within = omega arith;
         x = x′;
         y = y′;

@@ -82,7 +82,7 @@ module _ {line : List ℕ} {m at next : ℕ} (asked : Entering line m at next) w
       record {
         room = omega (arith, asked .room);
         within = at-within;
-        kept = asked .kept;
+        valid = asked .valid;
         beyond = λ k l n.
             let after : x-of next < x-of (getD (take m line) k 0) = asked .ranked .after k l (omega (arith, old-long)) in
             rw (getD-take m line k 0 n) at (let weak : x-of next ≤ x-of (getD (take m line) k 0) = omega arith in weak);
@@ -122,7 +122,7 @@ module _ {line : List ℕ} {m at next : ℕ} (asked : Entering line m at next) w
       entered-not =
           record {
             within = omega arith;
-            kept = asked .kept;
+            valid = asked .valid;
             alike = alike-left-out;
             below = λ n b f. b;
           }
@@ -178,7 +178,7 @@ module _ {line : List ℕ} {m at next : ℕ} (asked : Entering line m at next) w
         unfolding all Rising
         rising =
             rising-join 0 (x-of next) (take at line) (v ∷ new) (omega arith)
-            (rising-front 0 (take at line) (drop at (take m line)) (rw whole (asked .kept .rising)))
+            (rising-front 0 (take at line) (drop at (take m line)) (rw whole (asked .valid .rising)))
             front-before
             (omega (arith, same .x), rw (same .x) (thinned .rising))
 
@@ -186,7 +186,7 @@ module _ {line : List ℕ} {m at next : ℕ} (asked : Entering line m at next) w
         unfolding all Flagged
         flags =
             flagged-join [] (take at line) (v ∷ new)
-            (flagged-front [] (take at line) (drop at (take m line)) (rw whole (asked .kept .flags)))
+            (flagged-front [] (take at line) (drop at (take m line)) (rw whole (asked .valid .flags)))
             (flag-right, flagged-fewer (take at line ++ (next ∷ [])) (take at line ++ (v ∷ [])) new tells (thinned .flags))
 
         tally-moved : (test : ℕ → Bool) → test v ≡ test next → tally test (take at line ++ (v ∷ new)) ≡ tally test (next ∷ (take at line ++ new))
@@ -214,7 +214,7 @@ module _ {line : List ℕ} {m at next : ℕ} (asked : Entering line m at next) w
         entered left″ end is k =
             record {
               within = k;
-              kept = rw is (record { rising = rising; flags = flags });
+              valid = rw is (record { rising = rising; flags = flags });
               alike = λ i j n. rw is (alike i j);
               below = λ n g h. rw is (below-all n g h);
             }

@@ -31,6 +31,7 @@ unfolding atMost both first rest
 covers-further x y u v c l m d =
     atMost-dominates (x ∷ y ∷ []) (u ∷ v ∷ []) c (rw (le-leb x u l, le-leb y v m)) d
 
+-- Entries of indices below a bound.
 pub below-append : (n : ℕ) (s t : List ℕ) → Below n (s ++ t) → Below n s × Below n t
 unfolding Below
 below-append n [] t h = (tt, h)
@@ -40,17 +41,6 @@ pub below-join : (n : ℕ) (s t : List ℕ) → Below n s → Below n t → Belo
 unfolding Below
 below-join n [] t f g = g
 below-join n (w ∷ s) t f g = (f .0, below-join n s t (f .1) g)
-
-pub take-drop : (at m : ℕ) (l : List ℕ) → at ≤ m → take at l ++ drop at (take m l) ≡ take m l
-take-drop at m l p = rw (← (take-take at m l p)) (take-append-drop at (take m l))
-
-pub drop-take : (from m : ℕ) (l : List ℕ) → drop from (take m l) ≡ take (m - from) (drop from l)
-drop-take zero m l = let all : m - 0 ≡ m = omega arith in rw all
-drop-take (suc from) zero l = let none : 0 - suc from ≡ 0 = omega arith in rw none
-drop-take (suc from) (suc m) [] = sym (take-nil (suc m - suc from))
-drop-take (suc from) (suc m) (w ∷ l) =
-    let less : suc m - suc from ≡ m - from = omega arith in
-    drop-take from m l ∙ ap (λ k. take k (drop from l)) (sym less)
 
 pub below-lift : (m n : ℕ) (line : List ℕ) → m ≤ n → Below m line → Below n line
 unfolding Below
@@ -62,3 +52,15 @@ unfolding Below
 below-at n [] l b k = l
 below-at n (w ∷ line) l b zero = b .0
 below-at n (w ∷ line) l b (suc k) = below-at n line l (b .1) k
+
+-- Parts of the line.
+pub take-drop : (at m : ℕ) (l : List ℕ) → at ≤ m → take at l ++ drop at (take m l) ≡ take m l
+take-drop at m l p = rw (← (take-take at m l p)) (take-append-drop at (take m l))
+
+pub drop-take : (from m : ℕ) (l : List ℕ) → drop from (take m l) ≡ take (m - from) (drop from l)
+drop-take zero m l = let all : m - 0 ≡ m = omega arith in rw all
+drop-take (suc from) zero l = let none : 0 - suc from ≡ 0 = omega arith in rw none
+drop-take (suc from) (suc m) [] = sym (take-nil (suc m - suc from))
+drop-take (suc from) (suc m) (w ∷ l) =
+    let less : suc m - suc from ≡ m - from = omega arith in
+    drop-take from m l ∙ ap (λ k. take k (drop from l)) (sym less)

@@ -311,12 +311,12 @@ walking-none line m at next h =
         record {
           short = omega arith;
           rising =
-              rising-from 0 (x-of next) back (rising-back 0 front back (rw whole (h .kept .rising)))
+              rising-from 0 (x-of next) back (rising-back 0 front back (rw whole (h .valid .rising)))
               (λ k l.
               let inside : at + k < m = omega (arith, many) in
               rw (getD-drop at (take m line) k 0, getD-take m line (at + k) 0 inside) (h .beyond (at + k) (omega arith) inside));
           flags-done = tt;
-          flags-rest = rw (append-nil front) (flagged-back [] front back (rw whole (h .kept .flags)));
+          flags-rest = rw (append-nil front) (flagged-back [] front back (rw whole (h .valid .flags)));
           alike = λ i j. alike-same refl (λ t. refl);
           below = λ n b. b;
         }
