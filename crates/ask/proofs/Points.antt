@@ -28,8 +28,8 @@ use borrow.Author.Tests.{leb-true}
 use Rattle.sweep.specs.Points as sweep-points
 
 -- Three columns, read together, are the points.
-pub columns-points : (rows : List Row) → sweep-points.points (column 1 rows) (column 2 rows) (column 3 rows) ≡ points (trials rows)
-unfolding sweep-points.points column field-of record-words points trials
+pub columns-points : (rows : List Row) → sweep-points.zip-points (column 1 rows) (column 2 rows) (column 3 rows) ≡ points (trials rows)
+unfolding sweep-points.zip-points column field-of record-words points trials
 columns-points [] = refl
 columns-points (r ∷ rows) = ap (λ l. point (r .trial) ∷ l) (columns-points rows)
 
@@ -154,15 +154,15 @@ columns-are-ready {w} {k} out c e l room =
     rw (c .points .first, c .points .second, c .points .third, c .under)
     (columns-ready w out k e l room (leave-out k (rows-before w (word w 0))) refl)
 
-columns-hold : {w : List ℕ} {k m : ℕ} {xs ys zs r : List ℕ} → Columns w k m xs ys zs r → sweep-points.points (take m xs) (take m ys) (take m zs) ≡ points (trials (leave-out k (rows-before w (word w 0))))
+columns-hold : {w : List ℕ} {k m : ℕ} {xs ys zs r : List ℕ} → Columns w k m xs ys zs r → sweep-points.zip-points (take m xs) (take m ys) (take m zs) ≡ points (trials (leave-out k (rows-before w (word w 0))))
 columns-hold {w} {k} c = rw (c .points .first, c .points .second, c .points .third) (columns-points (leave-out k (rows-before w (word w 0))))
 
 columns-many : {w : List ℕ} {k m : ℕ} {xs ys zs r : List ℕ} → Columns w k m xs ys zs r → length (take m xs) ≡ length (leave-out k (rows-before w (word w 0)))
 columns-many {w} {k} c = ap length (c .points .first) ∙ length-column 1 (leave-out k (rows-before w (word w 0)))
 
 pub joints-counted : {w : List ℕ} {k m : ℕ} {xs ys zs r : List ℕ} (p before after : List ℕ) (answer : ℕ) → Columns w k m xs ys zs r
-    → answer ≡ gain r (sweep-points.points (take m xs) (take m ys) (take m zs)) p
-    → after ≡ joints r (sweep-points.points (take m xs) (take m ys) (take m zs)) p ++ drop (length (take m xs)) before
+    → answer ≡ gain r (sweep-points.zip-points (take m xs) (take m ys) (take m zs)) p
+    → after ≡ joints r (sweep-points.zip-points (take m xs) (take m ys) (take m zs)) p ++ drop (length (take m xs)) before
     → CountedJoints w k p before after answer
 unfolding read
 joints-counted {w} {k} {m} {xs} {ys} {zs} {r} p before after answer c g e =
@@ -170,25 +170,25 @@ joints-counted {w} {k} {m} {xs} {ys} {zs} {r} p before after answer c g e =
       whole = g ∙ ap₂ (λ r q. gain r q p) (c .under) (columns-hold c);
       each =
           e
-          ∙ ap (λ n. joints r (sweep-points.points (take m xs) (take m ys) (take m zs)) p ++ drop n before) (columns-many c)
+          ∙ ap (λ n. joints r (sweep-points.zip-points (take m xs) (take m ys) (take m zs)) p ++ drop n before) (columns-many c)
           ∙ ap₂ (λ r q. joints r q p ++ drop (length (leave-out k (rows-before w (word w 0)))) before) (c .under) (columns-hold c);
     }
 
 pub all-counted : {w : List ℕ} {m : ℕ} {xs ys zs r : List ℕ} (before after : List ℕ) (answer : ℕ) → Columns w (word w 0) m xs ys zs r
-    → answer ≡ total r (sweep-points.points (take m xs) (take m ys) (take m zs))
-    → after ≡ contributions r (sweep-points.points (take m xs) (take m ys) (take m zs)) ++ drop (length (take m xs)) before
+    → answer ≡ total r (sweep-points.zip-points (take m xs) (take m ys) (take m zs))
+    → after ≡ contributions r (sweep-points.zip-points (take m xs) (take m ys) (take m zs)) ++ drop (length (take m xs)) before
     → CountedAll w before after answer
 unfolding read
 all-counted {w} {m} {xs} {ys} {zs} {r} before after answer c g e =
     let none : leave-out (word w 0) (rows-before w (word w 0)) ≡ rows-before w (word w 0) =
     leave-none (rows-before w (word w 0)) (word w 0) (let size : length (rows-before w (word w 0)) ≡ word w 0 = count-rows w in omega arith) in
-    let hold : sweep-points.points (take m xs) (take m ys) (take m zs) ≡ points (trials (rows-before w (word w 0))) =
+    let hold : sweep-points.zip-points (take m xs) (take m ys) (take m zs) ≡ points (trials (rows-before w (word w 0))) =
     columns-hold c ∙ ap (λ x. points (trials x)) none in
     record {
       whole = g ∙ ap₂ (λ r q. total r q) (c .under) hold;
       each =
           e
-          ∙ ap (λ n. contributions r (sweep-points.points (take m xs) (take m ys) (take m zs)) ++ drop n before) (columns-many c ∙ ap length none)
+          ∙ ap (λ n. contributions r (sweep-points.zip-points (take m xs) (take m ys) (take m zs)) ++ drop n before) (columns-many c ∙ ap length none)
           ∙ ap₂ (λ r q. contributions r q ++ drop (length (rows-before w (word w 0))) before) (c .under) hold;
     }
 

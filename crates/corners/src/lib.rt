@@ -4,7 +4,7 @@ ghost use mathlib.Core.Path.{_≡_};
 ghost use mathlib.Core.List.{_++_};
 ghost use lib.ListN.{length, drop};
 ghost use Rattle.hypervolume.specs.Counts.{gain, joints};
-ghost use Rattle.sweep.specs.Points.{points, Small, Ready};
+ghost use Rattle.sweep.specs.Points.{zip-points, Small, Ready};
 
 mod limits;
 
@@ -20,8 +20,8 @@ pub fn update(
     out: &mut [u64],
 ) -> u64
     requires { ⌜ Ready (now xs) (now ys) (now zs) (reference .at) (now out) × Small (u .at) ⌝ }
-    ensures gain { λ r. ⌜ r ≡ gain (reference .at) (points (now (xs .entry)) (now (ys .entry)) (now (zs .entry))) (u .at) ⌝ }
-    ensures joints { λ r. ⌜ now (out .exit) ≡ joints (reference .at) (points (now (xs .entry)) (now (ys .entry)) (now (zs .entry))) (u .at) ++ drop (length (now (xs .entry))) (now (out .entry)) ⌝ }
+    ensures gain { λ r. ⌜ r ≡ gain (reference .at) (zip-points (now (xs .entry)) (now (ys .entry)) (now (zs .entry))) (u .at) ⌝ }
+    ensures joints { λ r. ⌜ now (out .exit) ≡ joints (reference .at) (zip-points (now (xs .entry)) (now (ys .entry)) (now (zs .entry))) (u .at) ++ drop (length (now (xs .entry))) (now (out .entry)) ⌝ }
 {
     let limit = limits::limits(xs, ys, zs, u);
     let mut kx = [0u64; 512];

@@ -1,16 +1,16 @@
 // Which corners an update counts. A corner may be left out where two that stay are at most it on all axes, and on real
 // archives nearly all may: those beyond a limit on some axis.
 use hypervolume::Point;
-use sweep::larger;
+use hypervolume::number::larger;
 ghost use mathlib.Core.Path.{_≡_};
-ghost use mathlib.Core.List.{_++_};
 ghost use lib.Dec.{leb};
-ghost use Prim.Native.Nat.{_-_, _≤_};
-ghost use lib.ListN.{length, take, drop, replicate};
+ghost use Prim.Native.Nat.{_-_};
+ghost use lib.ListN.{length, replicate};
 ghost use Rattle.slices.specs.Choices.{both};
+ghost use Rattle.slices.specs.Put.{put};
 ghost use Rattle.hypervolume.specs.Cells.{holds};
-ghost use Rattle.sweep.specs.Points.{points, Small};
-ghost use Rattle.corners.specs.Limits.{axesWithin, offer, twoWith, Alike, Limits, Collecting, Collected, Spreading, spread};
+ghost use Rattle.sweep.specs.Points.{zip-points, SameLength, Small};
+ghost use Rattle.corners.specs.Limits.{axes-within, offer, two-with, Limits, Collecting, Collected, Spreading, spread};
 
 // The two least of the numbers passed.
 pub struct Two {
@@ -21,7 +21,7 @@ pub struct Two {
 impl Two {
     // The two least with one more number.
     pub fn with(self, n: u64) -> Two
-        ensures { λ r. ⌜ r ≡ twoWith self n ⌝ }
+        ensures { λ r. ⌜ r ≡ two-with self n ⌝ }
     {
         if self.second <= n {
             self
@@ -48,7 +48,7 @@ fn at_most(a: u64, b: u64) -> u64
 
 // On how many of the axes a point is at most p.
 fn axes(x: u64, y: u64, z: u64, p: [u64; 3]) -> u64
-    ensures { λ r. ⌜ r ≡ axesWithin x y z p ⌝ }
+    ensures { λ r. ⌜ r ≡ axes-within x y z p ⌝ }
 {
     at_most(x, p[0]) + at_most(y, p[1]) + at_most(z, p[2])
 }
@@ -71,8 +71,8 @@ fn offered(n: u64, a: u64, b: u64, ua: u64, ub: u64) -> u64
 // within the limits so far and at most u on two axes can lower one, that is, a point that passes five of six tests. The
 // points ascend on z, so past the limit on z none does.
 pub fn limits(xs: &[u64], ys: &[u64], zs: &[u64], u: Point) -> [u64; 3]
-    requires { ⌜ Alike (now xs) (now ys) (now zs) × Small (u .at) ⌝ }
-    ensures { λ r. ⌜ Limits (points (now (xs .entry)) (now (ys .entry)) (now (zs .entry))) (u .at) r ⌝ }
+    requires { ⌜ SameLength (now xs) (now ys) (now zs) × Small (u .at) ⌝ }
+    ensures { λ r. ⌜ Limits (zip-points (now (xs .entry)) (now (ys .entry)) (now (zs .entry))) (u .at) r ⌝ }
 {
     let ux = u.at[0] as u64;
     let uy = u.at[1] as u64;
@@ -108,18 +108,6 @@ pub fn limits(xs: &[u64], ys: &[u64], zs: &[u64], u: Point) -> [u64; 3]
     limit
 }
 
-// Clears the counts from `from` up to `to`.
-fn clear(out: &mut [u64], from: usize, to: usize)
-    requires { ⌜ (from ≤ to) × (to ≤ length (now out)) ⌝ }
-    ensures { λ _. ⌜ now (out .exit) ≡ take from (now (out .entry)) ++ (replicate (to - from) 0 ++ drop to (now (out .entry))) ⌝ }
-{
-    let mut i = from;
-    while i < to {
-        out[i] = 0;
-        i += 1;
-    }
-}
-
 // The corners within the limit, in their order: how many, their coordinates, and in `places` where their points stand.
 // Every count in `out` becomes 0, which is what the corners left out have. The points
 // ascend on z, so past the limit on z none is within. (A place takes 16 bits, to save stack.)
@@ -137,7 +125,7 @@ pub fn collect(
 ) -> usize
     requires { ⌜ Collecting (now xs) (now ys) (now zs) (u .at) limit (now kx) (now ky) (now kz) (now places) (now out) ⌝ }
     ensures collected { λ r. ⌜ Collected (now (xs .entry)) (now (ys .entry)) (now (zs .entry)) (u .at) limit (length (now (xs .entry))) (now (kx .exit)) (now (ky .exit)) (now (kz .exit)) (now (places .exit)) r ⌝ }
-    ensures cleared { λ _. ⌜ now (out .exit) ≡ replicate (length (now (xs .entry))) 0 ++ drop (length (now (xs .entry))) (now (out .entry)) ⌝ }
+    ensures cleared { λ _. ⌜ now (out .exit) ≡ put (now (out .entry)) 0 (replicate (length (now (xs .entry))) 0) ⌝ }
 {
     let ux = u.at[0] as u64;
     let uy = u.at[1] as u64;
@@ -149,7 +137,7 @@ pub fn collect(
         let y = ys[i];
         let z = zs[i];
         if limit[2] < z {
-            clear(out, i, xs.len());
+            slices::clear(out, i, xs.len() - i);
             return m;
         }
         out[i] = 0;

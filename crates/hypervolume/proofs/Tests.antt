@@ -38,6 +38,9 @@ unfolding holds
 holds-le-one true = omega arith
 holds-le-one false = omega arith
 
+pub holds-small : (t : Bool) {n : ℕ} → n ≡ holds t → n ≤ 1
+holds-small t e = omega (arith, holds-le-one t)
+
 -- a test that is implied by another counts at most as often
 pub both-le-left : (s t : Bool) → holds (both s t) ≤ holds s
 unfolding both holds

@@ -5,6 +5,8 @@ ghost use Prim.Native.Nat.{ℕ, _-_, _≤_, _<_, _*_, max};
 ghost use lib.ListN.{getD};
 ghost use Rattle.hypervolume.specs.Cells.{dominates, join, edges};
 
+pub mod number;
+
 // A point: a coordinate for each axis, x, y, z.
 pub struct Point {
     pub at: [u32; 3],

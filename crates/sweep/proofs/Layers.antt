@@ -20,17 +20,17 @@ use Rattle.slices.proofs.Choices.{both-comm}
 use Rattle.hypervolume.proofs.Dominance.{first, rest, cover-append, among-at}
 use Rattle.hypervolume.proofs.Counting.{count-none, SameCover, total-same, total-more, contribution-same, contribution-new, contribution-more}
 use Rattle.hypervolume.proofs.Axes.{FirstAtMost, gain-layers, joint-layers}
-use Rattle.sweep.specs.Line.{entryOf, xOf, yOf, indexOf, spot, tally, over, overBy, gainOver, sharedWith, Rising, Flagged, Kept, Alike}
+use Rattle.sweep.specs.Line.{entry-of, x-of, y-of, index-of, spot, tally, over, over-by, gain-over, shared-with, Rising, Flagged, ValidLine, Alike}
 use Rattle.sweep.specs.Entries.{Below}
-use Rattle.sweep.proofs.Flags.{over-cons}
+use Rattle.sweep.proofs.Tally.{over-cons}
 
 -- The line counts as the trials do, seen along z, in the rows below ry, where two are as good as more.
-unfoldable pub Holds : ℕ → List ℕ → List (List ℕ) → Type 0
-Holds ry line trials = (i j : ℕ) → j < ry → min (over line (i ∷ j ∷ [])) 2 ≡ min (cover trials (i ∷ j ∷ [])) 2
+unfoldable pub LineCovers : ℕ → List ℕ → List (List ℕ) → Type 0
+LineCovers ry line trials = (i j : ℕ) → j < ry → min (over line (i ∷ j ∷ [])) 2 ≡ min (cover trials (i ∷ j ∷ [])) 2
 
 -- Where there is at most one entry over a cell, the entry of index t is over it just where the trial is.
-unfoldable pub HoldsAt : ℕ → ℕ → List ℕ → List ℕ → Type 0
-HoldsAt ry t line trial = (i j : ℕ) → j < ry → over line (i ∷ j ∷ []) ≤ 1 → overBy t line (i ∷ j ∷ []) ≡ holds (dominates trial (i ∷ j ∷ []))
+unfoldable pub LineCoversAt : ℕ → ℕ → List ℕ → List ℕ → Type 0
+LineCoversAt ry t line trial = (i j : ℕ) → j < ry → over line (i ∷ j ∷ []) ≤ 1 → over-by t line (i ∷ j ∷ []) ≡ holds (dominates trial (i ∷ j ∷ []))
 
 -- Counts of a layer, cell by cell.
 count-layer : (rx ry : ℕ) (p q : List ℕ → Bool) → ((i j : ℕ) → j < ry → p (i ∷ j ∷ []) ≡ q (i ∷ j ∷ [])) → count (rx ∷ ry ∷ []) p ≡ count (rx ∷ ry ∷ []) q
@@ -47,9 +47,9 @@ none-alike k n e = go (eqb k 0) (eqb n 0) (equated k 0) (equated n 0)
     go true false (same p) (differs q) = absurd (let no′ : ⊥ = q (omega arith) in no′)
     go false true (differs p) (same q) = absurd (let no′ : ⊥ = p (omega arith) in no′)
 
-pub gainOver-gain : (rx ry : ℕ) (line : List ℕ) (trials : List (List ℕ)) (p : List ℕ) → Holds ry line trials → gainOver (rx ∷ ry ∷ []) line p ≡ gain (rx ∷ ry ∷ []) trials p
-unfolding gainOver gain Holds
-gainOver-gain rx ry line trials p h =
+pub gain-over-gain : (rx ry : ℕ) (line : List ℕ) (trials : List (List ℕ)) (p : List ℕ) → LineCovers ry line trials → gain-over (rx ∷ ry ∷ []) line p ≡ gain (rx ∷ ry ∷ []) trials p
+unfolding gain-over gain LineCovers
+gain-over-gain rx ry line trials p h =
     count-layer rx ry _ _
     (λ i j l. ap (both (dominates p (i ∷ j ∷ []))) (none-alike (over line (i ∷ j ∷ [])) (cover trials (i ∷ j ∷ [])) (h i j l)))
 
@@ -65,80 +65,69 @@ jointly true t n k b e f = rw (one-add k, eqb·suc-suc k 1) (go t (eqb n 1) (eqb
     go true true true (same p) q f = rw (f (omega arith))
     go false true true (same p) q f = rw (f (omega arith))
 
-pub sharedWith-joint : (rx ry : ℕ) (line : List ℕ) (trials : List (List ℕ)) (p t : List ℕ) (j : ℕ) → Holds ry line trials → HoldsAt ry j line t → sharedWith (rx ∷ ry ∷ []) line p j ≡ joint (rx ∷ ry ∷ []) (p ∷ trials) p t
-unfolding sharedWith joint cover Holds HoldsAt
-sharedWith-joint rx ry line trials p t j h o =
+pub shared-with-joint : (rx ry : ℕ) (line : List ℕ) (trials : List (List ℕ)) (p t : List ℕ) (j : ℕ) → LineCovers ry line trials → LineCoversAt ry j line t → shared-with (rx ∷ ry ∷ []) line p j ≡ joint (rx ∷ ry ∷ []) (p ∷ trials) p t
+unfolding shared-with joint cover LineCovers LineCoversAt
+shared-with-joint rx ry line trials p t j h o =
     count-layer rx ry _ _
-    (λ i k l. jointly (dominates p (i ∷ k ∷ [])) (dominates t (i ∷ k ∷ [])) (over line (i ∷ k ∷ [])) (cover trials (i ∷ k ∷ [])) (overBy j line (i ∷ k ∷ [])) (h i k l) (o i k l))
+    (λ i k l. jointly (dominates p (i ∷ k ∷ [])) (dominates t (i ∷ k ∷ [])) (over line (i ∷ k ∷ [])) (cover trials (i ∷ k ∷ [])) (over-by j line (i ∷ k ∷ [])) (h i k l) (o i k l))
 
 -- No entry has the index j.
-pub overBy-none : (n j : ℕ) (line c : List ℕ) → Below n line → n ≤ j → overBy j line c ≡ 0
-unfolding overBy tally Below both holds
-overBy-none n j [] c b l = refl
-overBy-none n j (w ∷ line) c b l =
-    rw (ne-eqb (indexOf w) j (λ e. omega (arith, b .0)), overBy-none n j line c (b .1) l)
+pub over-by-none : (n j : ℕ) (line c : List ℕ) → Below n line → n ≤ j → over-by j line c ≡ 0
+unfolding over-by tally Below both holds
+over-by-none n j [] c b l = refl
+over-by-none n j (w ∷ line) c b l =
+    rw (ne-eqb (index-of w) j (λ e. omega (arith, b .0)), over-by-none n j line c (b .1) l)
 
-pub sharedWith-none : (n j : ℕ) (r line p : List ℕ) → Below n line → n ≤ j → sharedWith r line p j ≡ 0
-unfolding sharedWith both
-sharedWith-none n j r line p b l =
-    count-none r _ (λ c. rw (overBy-none n j line c b l) (closed (dominates p c) (eqb (over line c) 1)))
+pub shared-with-none : (n j : ℕ) (r line p : List ℕ) → Below n line → n ≤ j → shared-with r line p j ≡ 0
+unfolding shared-with both
+shared-with-none n j r line p b l =
+    count-none r _ (λ c. rw (over-by-none n j line c b l) (closed (dominates p c) (eqb (over line c) 1)))
   where
     closed : (a b : Bool) → both a (both b false) ≡ false
     closed a b = rw (both-comm b false) (both-comm a false)
 
 -- An entry gives back what was put in.
 module _ (x y index : ℕ) (y-small : y ≤ 1048576) (index-small : index < 512) where
-  pub spot-entry : spot (entryOf x y index) ≡ x ∷ y ∷ []
+  pub spot-entry : spot (entry-of x y index) ≡ x ∷ y ∷ []
   spot-entry =
-      let first′ : xOf (entryOf x y index) ≡ x = omega arith in
-      let second′ : yOf (entryOf x y index) ≡ y = omega arith in
+      let first′ : x-of (entry-of x y index) ≡ x = omega arith in
+      let second′ : y-of (entry-of x y index) ≡ y = omega arith in
       rw (first′, second′)
 
-  pub index-entry : indexOf (entryOf x y index) ≡ index
+  pub index-entry : index-of (entry-of x y index) ≡ index
   index-entry = omega arith
 
 -- The line stands for the points passed, z first, each with its index in the list.
-pub record Lined (ry : ℕ) (trials : List (List ℕ)) (line : List ℕ) : Type 0 where
-  pub kept : Kept line
-  pub all : Holds ry line (map rest trials)
-  pub each : (j : ℕ) → j < length trials → HoldsAt ry j line (rest (getD trials j []))
+pub record LineFor (ry : ℕ) (trials : List (List ℕ)) (line : List ℕ) : Type 0 where
+  pub valid : ValidLine line
+  pub all : LineCovers ry line (map rest trials)
+  pub each : (j : ℕ) → j < length trials → LineCoversAt ry j line (rest (getD trials j []))
   pub below : Below (length trials) line
 
-pub lined-none : (ry : ℕ) → Lined ry [] []
-unfolding Holds over tally cover Below Rising Flagged
-lined-none ry =
+pub line-for-none : (ry : ℕ) → LineFor ry [] []
+unfolding LineCovers over tally cover Below Rising Flagged
+line-for-none ry =
     record {
-      kept = record { rising = tt; flags = tt };
+      valid = record { rising = tt; flags = tt };
       all = λ i j l. refl;
       each = λ j l. absurd (let no′ : ⊥ = omega arith in no′);
       below = tt;
     }
 
-pub below-lift : (m n : ℕ) (line : List ℕ) → m ≤ n → Below m line → Below n line
-unfolding Below
-below-lift m n [] l b = tt
-below-lift m n (w ∷ line) l b = (omega (arith, b .0), below-lift m n line l (b .1))
-
-pub below-at : (n : ℕ) (line : List ℕ) → 0 < n → Below n line → (k : ℕ) → indexOf (getD line k 0) < n
-unfolding Below
-below-at n [] l b k = l
-below-at n (w ∷ line) l b zero = b .0
-below-at n (w ∷ line) l b (suc k) = below-at n line l (b .1) k
-
 -- One more point: a line that counts as the old one with its entry.
-module _ {ry : ℕ} {trials : List (List ℕ)} {line : List ℕ} (h : Lined ry trials line) (z x y : ℕ) (y-small : y ≤ 1048576) (few : length trials < 512) where
+module _ {ry : ℕ} {trials : List (List ℕ)} {line : List ℕ} (h : LineFor ry trials line) (z x y : ℕ) (y-small : y ≤ 1048576) (few : length trials < 512) where
   p : List ℕ
   p = z ∷ x ∷ y ∷ []
 
   abbrev w : ℕ
-  w = entryOf x y (length trials)
+  w = entry-of x y (length trials)
 
   over-more : (c : List ℕ) → over (w ∷ line) c ≡ holds (dominates (x ∷ y ∷ []) c) + over line c
-  over-more c = rw (over-cons (entryOf x y (length trials)) line c, spot-entry x y (length trials) y-small few)
+  over-more c = rw (over-cons (entry-of x y (length trials)) line c, spot-entry x y (length trials) y-small few)
 
-  overBy-more : (j : ℕ) (c : List ℕ) → overBy j (w ∷ line) c ≡ holds (both (eqb (length trials) j) (dominates (x ∷ y ∷ []) c)) + overBy j line c
-  unfolding overBy tally
-  overBy-more j c =
+  over-by-more : (j : ℕ) (c : List ℕ) → over-by j (w ∷ line) c ≡ holds (both (eqb (length trials) j) (dominates (x ∷ y ∷ []) c)) + over-by j line c
+  unfolding over-by tally
+  over-by-more j c =
       rw (spot-entry x y (length trials) y-small few, index-entry x y (length trials) y-small few)
 
   cover-next : (c : List ℕ) → cover (map rest (trials ++ (p ∷ []))) c ≡ cover (map rest trials) c + holds (dominates (x ∷ y ∷ []) c)
@@ -147,33 +136,33 @@ module _ {ry : ℕ} {trials : List (List ℕ)} {line : List ℕ} (h : Lined ry t
       rw (map-append rest trials (p ∷ []), cover-append (map rest trials) ((x ∷ y ∷ []) ∷ []) c)
       (ap (λ k. cover (map rest trials) c + k) (add-zero (holds (dominates (x ∷ y ∷ []) c))))
 
-  module _ {left : List ℕ} (kept : Kept left) (alike : Alike ry (entryOf x y (length trials) ∷ line) left) (below′ : Below (suc (length trials)) left) where
+  module _ {left : List ℕ} (valid : ValidLine left) (alike : Alike ry (entry-of x y (length trials) ∷ line) left) (below′ : Below (suc (length trials)) left) where
     -- where at most one entry is over a cell now, at most one was before
     few-before : (i j : ℕ) → j < ry → over left (i ∷ j ∷ []) ≤ 1 → over (w ∷ line) (i ∷ j ∷ []) ≤ 1
     few-before i j l m = omega (arith, alike i j l .many)
 
-    each-more : (t : ℕ) → t < length (trials ++ (p ∷ [])) → Dec (t < length trials) → HoldsAt ry t left (rest (getD (trials ++ (p ∷ [])) t []))
-    unfolding HoldsAt both holds p rest
+    each-more : (t : ℕ) → t < length (trials ++ (p ∷ [])) → Dec (t < length trials) → LineCoversAt ry t left (rest (getD (trials ++ (p ∷ [])) t []))
+    unfolding LineCoversAt both holds p rest
     each-more t l (yes a) i j m o =
         let one : over (w ∷ line) (i ∷ j ∷ []) ≤ 1 = few-before i j m o in
         rw (List·getD-append trials (p ∷ []) [] t a)
         (alike i j m .whose t one
-        ∙ overBy-more t (i ∷ j ∷ [])
-        ∙ rw (ne-eqb (length trials) t (λ e. omega arith)) (zero-add (overBy t line (i ∷ j ∷ [])))
+        ∙ over-by-more t (i ∷ j ∷ [])
+        ∙ rw (ne-eqb (length trials) t (λ e. omega arith)) (zero-add (over-by t line (i ∷ j ∷ [])))
         ∙ h .each t a i j m (omega (arith, over-more (i ∷ j ∷ []))))
     each-more t l (no a) i j m o =
         let last : t ≡ length trials = omega (arith, length-append trials (p ∷ [])) in
         rw (last, getD-append-seam trials p [] [])
         (alike i j m .whose (length trials) (few-before i j m o)
-        ∙ overBy-more (length trials) (i ∷ j ∷ [])
-        ∙ rw (eq-eqb (length trials) (length trials) refl, overBy-none (length trials) (length trials) line (i ∷ j ∷ []) (h .below) (omega arith))
+        ∙ over-by-more (length trials) (i ∷ j ∷ [])
+        ∙ rw (eq-eqb (length trials) (length trials) refl, over-by-none (length trials) (length trials) line (i ∷ j ∷ []) (h .below) (omega arith))
         (add-zero (holds (dominates (x ∷ y ∷ []) (i ∷ j ∷ [])))))
 
-    pub lined-more : Lined ry (trials ++ ((z ∷ x ∷ y ∷ []) ∷ [])) left
-    unfolding Holds p
-    lined-more =
+    pub line-for-more : LineFor ry (trials ++ ((z ∷ x ∷ y ∷ []) ∷ [])) left
+    unfolding LineCovers p
+    line-for-more =
         record {
-          kept = kept;
+          valid = valid;
           all = λ i j l.
               let before : min (over line (i ∷ j ∷ [])) 2 ≡ min (cover (map rest trials) (i ∷ j ∷ [])) 2 = h .all i j l in
               omega (arith, alike i j l .many, over-more (i ∷ j ∷ []), cover-next (i ∷ j ∷ []));
@@ -194,7 +183,7 @@ at-first z (t ∷ trials) h = (h 0 (omega arith), at-first z trials (λ j l. h (
 
 -- The next point q of the sweep, whose z is no less than that of any point passed: each of its counts is the height of
 -- its layers times the count of the line (law 7), and the counts of the points passed move by them (laws 1 and 2).
-module _ {ry : ℕ} {trials : List (List ℕ)} {line : List ℕ} (h : Lined ry trials line) (rz rx z x y : ℕ) (under : FirstAtMost z trials) where
+module _ {ry : ℕ} {trials : List (List ℕ)} {line : List ℕ} (h : LineFor ry trials line) (rz rx z x y : ℕ) (under : FirstAtMost z trials) where
   reference : List ℕ
   reference = rz ∷ rx ∷ ry ∷ []
 
@@ -207,33 +196,33 @@ module _ {ry : ℕ} {trials : List (List ℕ)} {line : List ℕ} (h : Lined ry t
       cover-append trials (q ∷ []) c
       ∙ rw (add-zero (holds (dominates q c))) (add-comm (cover trials c) (holds (dominates q c)))
 
-  next-gain : gain reference trials q ≡ (rz - z) * gainOver (rx ∷ ry ∷ []) line (x ∷ y ∷ [])
+  next-gain : gain reference trials q ≡ (rz - z) * gain-over (rx ∷ ry ∷ []) line (x ∷ y ∷ [])
   unfolding reference q
   next-gain =
       gain-layers rz (rx ∷ ry ∷ []) trials z (x ∷ y ∷ []) under
-      ∙ rw (gainOver-gain rx ry line (map rest trials) (x ∷ y ∷ []) (h .all))
+      ∙ rw (gain-over-gain rx ry line (map rest trials) (x ∷ y ∷ []) (h .all))
 
-  next-joint : (j : ℕ) → j < length trials → joint reference (q ∷ trials) q (getD trials j []) ≡ (rz - z) * sharedWith (rx ∷ ry ∷ []) line (x ∷ y ∷ []) j
+  next-joint : (j : ℕ) → j < length trials → joint reference (q ∷ trials) q (getD trials j []) ≡ (rz - z) * shared-with (rx ∷ ry ∷ []) line (x ∷ y ∷ []) j
   unfolding reference q
   next-joint j l =
       joint-layers rz (rx ∷ ry ∷ []) trials z (x ∷ y ∷ []) (getD trials j []) under (first-at z trials under j l)
-      ∙ rw (sharedWith-joint rx ry line (map rest trials) (x ∷ y ∷ []) (rest (getD trials j [])) j (h .all) (h .each j l))
+      ∙ rw (shared-with-joint rx ry line (map rest trials) (x ∷ y ∷ []) (rest (getD trials j [])) j (h .all) (h .each j l))
 
-  pub next-total : total (rz ∷ rx ∷ ry ∷ []) (trials ++ ((z ∷ x ∷ y ∷ []) ∷ [])) ≡ total (rz ∷ rx ∷ ry ∷ []) trials + (rz - z) * gainOver (rx ∷ ry ∷ []) line (x ∷ y ∷ [])
+  pub next-total : total (rz ∷ rx ∷ ry ∷ []) (trials ++ ((z ∷ x ∷ y ∷ []) ∷ [])) ≡ total (rz ∷ rx ∷ ry ∷ []) trials + (rz - z) * gain-over (rx ∷ ry ∷ []) line (x ∷ y ∷ [])
   unfolding reference q
   next-total =
       total-same reference (trials ++ (q ∷ [])) (q ∷ trials) last
       ∙ total-more reference trials q
       ∙ ap (λ k. total reference trials + k) next-gain
 
-  pub next-own : contribution (rz ∷ rx ∷ ry ∷ []) (trials ++ ((z ∷ x ∷ y ∷ []) ∷ [])) (z ∷ x ∷ y ∷ []) ≡ (rz - z) * gainOver (rx ∷ ry ∷ []) line (x ∷ y ∷ [])
+  pub next-own : contribution (rz ∷ rx ∷ ry ∷ []) (trials ++ ((z ∷ x ∷ y ∷ []) ∷ [])) (z ∷ x ∷ y ∷ []) ≡ (rz - z) * gain-over (rx ∷ ry ∷ []) line (x ∷ y ∷ [])
   unfolding reference q
   next-own =
       contribution-same reference (trials ++ (q ∷ [])) (q ∷ trials) q last
       ∙ contribution-new reference trials q
       ∙ next-gain
 
-  pub next-other : (j : ℕ) → j < length trials → contribution (rz ∷ rx ∷ ry ∷ []) trials (getD trials j []) ≡ contribution (rz ∷ rx ∷ ry ∷ []) (trials ++ ((z ∷ x ∷ y ∷ []) ∷ [])) (getD trials j []) + (rz - z) * sharedWith (rx ∷ ry ∷ []) line (x ∷ y ∷ []) j
+  pub next-other : (j : ℕ) → j < length trials → contribution (rz ∷ rx ∷ ry ∷ []) trials (getD trials j []) ≡ contribution (rz ∷ rx ∷ ry ∷ []) (trials ++ ((z ∷ x ∷ y ∷ []) ∷ [])) (getD trials j []) + (rz - z) * shared-with (rx ∷ ry ∷ []) line (x ∷ y ∷ []) j
   unfolding reference q
   next-other j l =
       contribution-more reference trials q (getD trials j []) (among-at trials j l)

@@ -1,6 +1,6 @@
 // A column of cells over one x: which of the points passed are lowest there.
 ghost use mathlib.Core.Path.{_≡_};
-ghost use Rattle.sweep.specs.Strips.{columnWith};
+ghost use Rattle.sweep.specs.Strips.{column-with};
 
 // The least y of the points passed, which of them has it, and the second least y.
 pub struct Column {
@@ -12,7 +12,7 @@ pub struct Column {
 impl Column {
     // The column with one more point passed.
     pub fn with(self, y: u64, owner: usize) -> Column
-        ensures { λ r. ⌜ r ≡ columnWith self y owner ⌝ }
+        ensures { λ r. ⌜ r ≡ column-with self y owner ⌝ }
     {
         if y < self.least {
             Column {

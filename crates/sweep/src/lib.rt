@@ -5,22 +5,19 @@ ghost use mathlib.Core.Path.{_≡_};
 ghost use mathlib.Core.List.{_++_};
 ghost use lib.ListN.{length, drop};
 ghost use Rattle.hypervolume.specs.Counts.{total, contributions};
-ghost use Rattle.sweep.specs.Points.{points, Ready};
+ghost use Rattle.sweep.specs.Points.{zip-points, Ready};
 
 mod column;
 mod line;
-mod number;
 mod strips;
-
-pub use number::larger;
 
 // The total of the points, and in `out` the contribution of each. After i points, `volume` and `out` are those of these
 // points alone. No earlier point has a larger z, so in each layer that the next point reaches it meets the same
 // picture, seen along z: one area to add and one area to take from each earlier point, `height` cells deep.
 pub fn sweep(xs: &[u64], ys: &[u64], zs: &[u64], reference: Point, out: &mut [u64]) -> u64
     requires { ⌜ Ready (now xs) (now ys) (now zs) (reference .at) (now out) ⌝ }
-    ensures total { λ r. ⌜ r ≡ total (reference .at) (points (now (xs .entry)) (now (ys .entry)) (now (zs .entry))) ⌝ }
-    ensures contributions { λ r. ⌜ now (out .exit) ≡ contributions (reference .at) (points (now (xs .entry)) (now (ys .entry)) (now (zs .entry))) ++ drop (length (now (xs .entry))) (now (out .entry)) ⌝ }
+    ensures total { λ r. ⌜ r ≡ total (reference .at) (zip-points (now (xs .entry)) (now (ys .entry)) (now (zs .entry))) ⌝ }
+    ensures contributions { λ r. ⌜ now (out .exit) ≡ contributions (reference .at) (zip-points (now (xs .entry)) (now (ys .entry)) (now (zs .entry))) ++ drop (length (now (xs .entry))) (now (out .entry)) ⌝ }
 {
     let rx = reference.at[0] as u64;
     let ry = reference.at[1] as u64;

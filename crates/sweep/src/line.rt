@@ -4,41 +4,44 @@
 // no longer counts.
 use crate::column::Column;
 ghost use mathlib.Core.Path.{_≡_};
-ghost use Prim.Native.Nat.{ℕ, _+_, _≤_, _<_};
+ghost use Prim.Native.Nat.{ℕ, _+_, _-_, _≤_, _<_};
 ghost use lib.Dec.{leb};
-ghost use lib.ListN.{length, take};
+ghost use mathlib.Core.List.{_∷_};
+ghost use lib.ListN.{length, take, drop};
+ghost use Rattle.slices.specs.Choices.{pick};
+ghost use Rattle.slices.specs.Put.{put};
 ghost use Rattle.hypervolume.specs.Cells.{holds};
-ghost use Rattle.sweep.specs.Line.{entryOf, flagged, xOf, yOf, indexOf, flagOf, Rising, Between, Ranked};
-ghost use Rattle.sweep.specs.Strips.{Standing};
-ghost use Rattle.sweep.specs.Entries.{pickEntry, Thinning, Walked, Placed, Closed, Entering, Entered};
+ghost use Rattle.sweep.specs.Line.{entry-of, flagged, x-of, y-of, index-of, flag-of, Rising, Between, Ranked};
+ghost use Rattle.sweep.specs.Strips.{ColumnState};
+ghost use Rattle.sweep.specs.Entries.{ThinningLine, Walked, Closed, Entering, Entered};
 
 pub fn entry(x: u64, y: u64, index: usize) -> u64
     requires { ⌜ (x ≤ 1048576) × (y ≤ 1048576) × (index < 512) ⌝ }
-    ensures { λ r. ⌜ r ≡ entryOf x y index ⌝ }
+    ensures { λ r. ⌜ r ≡ entry-of x y index ⌝ }
 {
     ((x * 2097152 + y) * 1024 + index as u64) * 2
 }
 
 pub fn x_of(entry: u64) -> u64
-    ensures { λ r. ⌜ r ≡ xOf entry ⌝ }
+    ensures { λ r. ⌜ r ≡ x-of entry ⌝ }
 {
     entry / 4294967296
 }
 
 pub fn y_of(entry: u64) -> u64
-    ensures { λ r. ⌜ r ≡ yOf entry ⌝ }
+    ensures { λ r. ⌜ r ≡ y-of entry ⌝ }
 {
     entry / 2048 % 2097152
 }
 
 pub fn index_of(entry: u64) -> usize
-    ensures { λ r. ⌜ r ≡ indexOf entry ⌝ }
+    ensures { λ r. ⌜ r ≡ index-of entry ⌝ }
 {
     (entry / 2 % 1024) as usize
 }
 
 pub fn flag_of(entry: u64) -> u64
-    ensures { λ r. ⌜ r ≡ flagOf entry ⌝ }
+    ensures { λ r. ⌜ r ≡ flag-of entry ⌝ }
 {
     entry % 2
 }
@@ -52,7 +55,7 @@ pub fn set_flag(entry: u64) -> u64
 
 // The entry, with its flag set where the test holds.
 fn flag_where(test: bool, entry: u64) -> u64
-    ensures { λ r. ⌜ r ≡ pickEntry test (flagged entry) entry ⌝ }
+    ensures { λ r. ⌜ r ≡ pick test (flagged entry) entry ⌝ }
 {
     if test { set_flag(entry) } else { entry }
 }
@@ -60,7 +63,7 @@ fn flag_where(test: bool, entry: u64) -> u64
 // 1 where the entry is at most x, else 0. By arithmetic, since no branch could tell beforehand.
 fn reaches(entry: u64, x: u64) -> usize
     requires { ⌜ x ≤ 1048576 ⌝ }
-    ensures { λ r. ⌜ r ≡ holds (leb (xOf entry) x) ⌝ }
+    ensures { λ r. ⌜ r ≡ holds (leb (x-of entry) x) ⌝ }
 {
     ((x + 4294967296 - entry / 4294967296) / 4294967296) as usize
 }
@@ -115,7 +118,7 @@ struct Gap {
 // Walks along the entries from `at` on, for the next point, which belongs there. Those that it covers are flagged, and left
 // out where they had the flag. Past an entry that is below the point and has no flag, none without a flag is covered.
 fn thin(line: &mut [u64], m: usize, at: usize, next: u64) -> Gap
-    requires { ⌜ Thinning (now line) m at next ⌝ }
+    requires { ⌜ ThinningLine (now line) m at next ⌝ }
     ensures { λ r. ⌜ Walked (now (line .entry)) m at next (now (line .exit)) (r .to) (r .from) ⌝ }
 {
     let y = y_of(next);
@@ -150,24 +153,16 @@ fn close(line: &mut [u64], to: usize, from: usize, m: usize) -> usize
         return m;
     }
     let n = m - from;
-    let mut i = 0;
-    while i < n {
-        line[to + i] = line[from + i];
-        i += 1;
-    }
+    slices::move_down(line, to, n, from - to);
     to + n
 }
 
 // Puts the entry in at `at`, among the first m.
 fn place(line: &mut [u64], m: usize, at: usize, entry: u64)
     requires { ⌜ (at ≤ m) × (m < length (now line)) ⌝ }
-    ensures { λ _. ⌜ Placed (now (line .entry)) m at entry (now (line .exit)) ⌝ }
+    ensures { λ _. ⌜ now (line .exit) ≡ put (now (line .entry)) at (entry ∷ take (m - at) (drop at (now (line .entry)))) ⌝ }
 {
-    let mut k = m;
-    while at < k {
-        line[k] = line[k - 1];
-        k -= 1;
-    }
+    slices::move_up(line, at, m - at, 1);
     line[at] = entry;
 }
 
@@ -175,7 +170,7 @@ fn place(line: &mut [u64], m: usize, at: usize, entry: u64)
 // many entries it has then. A point that two of them cover is left out. Where entries leave, the new one takes their room.
 pub fn enter(line: &mut [u64], m: usize, at: usize, column: Column, next: u64) -> usize
     requires { ⌜ Entering (now line) m at next ⌝ }
-    ensures { λ r. ⌜ ((ry : ℕ) → Standing ry (take at (now (line .entry))) column → Entered ry (now (line .entry)) m next (now (line .exit)) r) ⌝ }
+    ensures { λ r. ⌜ ((ry : ℕ) → ColumnState ry (take at (now (line .entry))) column → Entered ry (now (line .entry)) m next (now (line .exit)) r) ⌝ }
 {
     let y = y_of(next);
     if column.second <= y {

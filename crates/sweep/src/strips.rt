@@ -4,20 +4,20 @@ ghost use mathlib.Core.List.{[]};
 ghost use mathlib.Core.Path.{_≡_};
 ghost use lib.Dec.{leb, eqb};
 ghost use Rattle.slices.specs.Choices.{both};
-ghost use Rattle.sweep.specs.Line.{yOf, flagOf, Flagged};
+ghost use Rattle.sweep.specs.Line.{y-of, flag-of, Flagged};
 ghost use Rattle.sweep.specs.Strips.{Seen, Settling, Settled, Crossing, Crossed};
 use crate::column::Column;
 use crate::line::flag_of;
 use crate::line::index_of;
 use crate::line::x_of;
 use crate::line::y_of;
-use crate::number::larger;
-use crate::number::less;
-use crate::number::smaller;
+use hypervolume::number::larger;
+use hypervolume::number::less;
+use hypervolume::number::smaller;
 
 // Whether no entry before this one changes the column.
 fn decides(entry: u64, column: Column) -> bool
-    ensures { λ r. ⌜ r ≡ both (eqb (flagOf entry) 0) (leb (column .second) (yOf entry)) ⌝ }
+    ensures { λ r. ⌜ r ≡ both (eqb (flag-of entry) 0) (leb (column .second) (y-of entry)) ⌝ }
 {
     if flag_of(entry) == 0 {
         column.second <= y_of(entry)

@@ -6,7 +6,7 @@ use mathlib.Core.List.{List}
 use lib.ListN.{length, replicate}
 use lib.Seq.{length-take-le}
 use denote.Ref.{now}
-use Rattle.corners.proofs.Updates.{Prepared, places-many, prepared-ready, prepared-spreading, prepared-enough, prepared-gain, prepared-joints}
+use Rattle.corners.proofs.UpdateLaws.{Prepared, places-many, prepared-ready, prepared-spreading, prepared-enough, prepared-gain, prepared-joints}
 use borrow.Author.Needs.{needs}
 use Rattle.corners.proofs.update.Statement.{statement}
 use Rattle.corners.proofs.update.Tie as tie

@@ -4,7 +4,7 @@ use lib.ListN.{length}
 use lib.Seq.{length-take-le}
 use mathlib.Core.Path.{refl, sym}
 use native.Mathlib.Omega.{arith}
-use Rattle.sweep.proofs.Sweeps.{Progress, progress-none, progress-index, progress-rising, progress-at, progress-flags, progress-crossing, progress-own, progress-fits, progress-entering, progress-more, progress-end}
+use Rattle.sweep.proofs.SweepLaws.{Progress, progress-none, progress-index, progress-rising, progress-at, progress-flags, progress-crossing, progress-own, progress-fits, progress-entering, progress-more, progress-end}
 use borrow.Author.Needs.{needs}
 use Rattle.sweep.proofs.sweep.Statement.{statement}
 use Rattle.sweep.proofs.sweep.Tie as tie
@@ -169,7 +169,7 @@ loop-again c =
     progress-more (here .before .loop .inv) (here .loop-test .taken) (edge .edge .ensures) (crossed .strips .ensures) refl
     (crossed .strips .kept .1 .1 .1 .1 .1 .1 .1 .1 .0)
     (entry .entry .ensures)
-    (entered .enter .ensures _ (seen .look-back .ensures .standing))
+    (entered .enter .ensures _ (seen .look-back .ensures .state))
     (entered .enter .kept .0)
 
 same-length : tie.Need-same-length Inv-loop μ-loop

@@ -1,8 +1,8 @@
 -- `axes` meets its contract.
 use Prim.Native.Nat.{_≤_}
 use native.Mathlib.Omega.{arith}
-use Rattle.corners.specs.Limits.{axesWithin}
-use Rattle.corners.proofs.Bounds.{test-few}
+use Rattle.corners.specs.Limits.{axes-within}
+use Rattle.hypervolume.proofs.Tests.{holds-small}
 use borrow.Author.Needs.{needs}
 use Rattle.corners.proofs.limits.axes.Statement.{statement}
 use Rattle.corners.proofs.limits.axes.Tie as tie
@@ -21,8 +21,8 @@ at-most-requires-2 c κs = search needs
 
 add-result : tie.Need-add-result
 add-result c =
-    let x : c .before .at-most .result ≤ 1 = test-few _ (c .before .at-most .ensures) in
-    let y : c .at-most2 .result ≤ 1 = test-few _ (c .at-most2 .ensures) in
+    let x : c .before .at-most .result ≤ 1 = holds-small _ (c .before .at-most .ensures) in
+    let y : c .at-most2 .result ≤ 1 = holds-small _ (c .at-most2 .ensures) in
     omega arith
 
 array-read-at-most-3 : tie.Need-array-read-at-most-3
@@ -33,13 +33,13 @@ at-most-requires-3 c κs = search needs
 
 add-result-2 : tie.Need-add-result-2
 add-result-2 c =
-    let x : c .before .before .at-most .result ≤ 1 = test-few _ (c .before .before .at-most .ensures) in
-    let y : c .before .at-most2 .result ≤ 1 = test-few _ (c .before .at-most2 .ensures) in
-    let z : c .at-most3 .result ≤ 1 = test-few _ (c .at-most3 .ensures) in
+    let x : c .before .before .at-most .result ≤ 1 = holds-small _ (c .before .before .at-most .ensures) in
+    let y : c .before .at-most2 .result ≤ 1 = holds-small _ (c .before .at-most2 .ensures) in
+    let z : c .at-most3 .result ≤ 1 = holds-small _ (c .at-most3 .ensures) in
     omega arith
 
 returns : tie.Need-returns
-unfolding axesWithin
+unfolding axes-within
 returns c = rw (c .before .before .at-most .ensures, c .before .at-most2 .ensures, c .at-most3 .ensures)
 
 pub axes-spec : {M : Type 1} → statement M

@@ -4,8 +4,8 @@ use mathlib.Core.Path.{_≡_}
 use native.Mathlib.Omega.{arith}
 use lib.ListN.{length}
 use borrow.Author.Count.{falls}
-use Rattle.corners.proofs.Bounds.{axes-all, axes-not}
-use Rattle.corners.proofs.Collections.{Gathering, gathering-none, gathering-skip, gathering-more, gathering-stop, gathering-end}
+use Rattle.corners.proofs.limits.AxesLaws.{axes-all, axes-not}
+use Rattle.corners.proofs.limits.CollectLaws.{Gathering, gathering-none, gathering-skip, gathering-more, gathering-stop, gathering-end}
 use borrow.Author.Needs.{needs}
 use Rattle.corners.proofs.limits.collect.Statement.{statement}
 use Rattle.corners.proofs.limits.collect.Tie as tie
@@ -66,6 +66,9 @@ array-read-if1 c = search needs
 
 abbrev start : tie.In-loop Inv-loop μ-loop → tie.Start Inv-loop μ-loop
 start c = c .before .before .before .before .before .before .before .before .before .before .before .before .before
+
+sub-clear : tie.Need-sub-clear Inv-loop μ-loop
+sub-clear c = search needs
 
 clear-requires : tie.Need-clear-requires Inv-loop μ-loop
 clear-requires c κs = search needs
@@ -206,6 +209,7 @@ collect-spec =
     mul-z
     shared-slice-read-z
     array-read-if1
+    sub-clear
     clear-requires
     same-length
     same-length-2

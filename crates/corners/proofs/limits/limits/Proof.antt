@@ -4,7 +4,8 @@ use mathlib.Core.Path.{_≡_}
 use native.Mathlib.Omega.{arith}
 use lib.ListN.{length}
 use borrow.Author.Count.{falls}
-use Rattle.corners.proofs.Bounds.{axes-few, Bounding, bounding-none, bounding-skip, bounding-more, bounding-end}
+use Rattle.corners.proofs.limits.AxesLaws.{axes-few}
+use Rattle.corners.proofs.limits.LimitsLaws.{Bounding, bounding-none, bounding-skip, bounding-more, bounding-end}
 use borrow.Author.Needs.{needs}
 use Rattle.corners.proofs.limits.limits.Statement.{statement}
 use Rattle.corners.proofs.limits.limits.Tie as tie

@@ -4,7 +4,7 @@ use native.Mathlib.Omega.{arith}
 use lib.ListN.{length}
 use borrow.Author.Count.{falls}
 use borrow.Author.Needs.{needs}
-use Rattle.corners.proofs.Spreads.{Spread, spread-none, spread-inside, spread-more, spread-end}
+use Rattle.corners.proofs.limits.SpreadLaws.{Spread, spread-none, spread-inside, spread-more, spread-end}
 use Rattle.corners.proofs.limits.spread.Statement.{statement}
 use Rattle.corners.proofs.limits.spread.Tie as tie
 

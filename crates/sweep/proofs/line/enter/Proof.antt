@@ -1,6 +1,6 @@
 -- `enter` meets its contract.
 use mathlib.Core.Path.{refl}
-use Rattle.sweep.proofs.Entrances.{entering-thinning, entered-not, entered-more, entered-room}
+use Rattle.sweep.proofs.line.EnterLaws.{entering-thinning, entered-not, entered-more, entered-room}
 use borrow.Author.Needs.{needs}
 use Rattle.sweep.proofs.line.enter.Statement.{statement}
 use Rattle.sweep.proofs.line.enter.Tie as tie
@@ -9,7 +9,7 @@ y-of-requires : tie.Need-y-of-requires
 y-of-requires c κs = search needs
 
 returns : tie.Need-returns
-returns c = λ ry standing. entered-not (c .before .before .before .before .pre) standing (c .before .before .y-of .ensures) (c .if1 .taken)
+returns c = λ ry state. entered-not (c .before .before .before .before .pre) state (c .before .before .y-of .ensures) (c .if1 .taken)
 
 thin-requires : tie.Need-thin-requires
 thin-requires c κs = entering-thinning (c .before .before .before .before .before .pre)
@@ -41,8 +41,8 @@ returns-2 c =
     let placed = c .before .before in
     let same = placed .before .before in
     let flag = same .before in
-    λ ry standing.
-    entered-more (named flag .before .before .pre) standing (named flag .y-of .ensures) (other flag .if1 .left) (thinned flag .thin .ensures) refl (same .if2 .taken)
+    λ ry state.
+    entered-more (named flag .before .before .pre) state (named flag .y-of .ensures) (other flag .if1 .left) (thinned flag .thin .ensures) refl (same .if2 .taken)
     (rw (flag .flag-where .ensures) at (placed .place .ensures))
 
 place-requires-2 : tie.Need-place-requires-2
@@ -63,8 +63,8 @@ returns-3 c =
     let placed = closed .before .before .before .before in
     let gap = placed .before .before in
     let flag = gap .before in
-    λ ry standing.
-    entered-room (named flag .before .before .pre) standing (named flag .y-of .ensures) (other flag .if1 .left) (thinned flag .thin .ensures) refl (gap .if2 .left)
+    λ ry state.
+    entered-room (named flag .before .before .pre) state (named flag .y-of .ensures) (other flag .if1 .left) (thinned flag .thin .ensures) refl (gap .if2 .left)
     (rw (flag .flag-where .ensures) at (placed .place2 .ensures))
     (closed .close .ensures)
 

@@ -1,5 +1,6 @@
 -- `flag_where` meets its contract.
 use borrow.Author.Needs.{needs}
+use Rattle.slices.specs.Choices.{pick}
 use Rattle.sweep.proofs.line.flag_where.Statement.{statement}
 use Rattle.sweep.proofs.line.flag_where.Tie as tie
 
@@ -7,10 +8,12 @@ set-flag-requires : tie.Need-set-flag-requires
 set-flag-requires c κs = search needs
 
 returns : tie.Need-returns
+unfolding pick
 returns c = rw (c .before .if1 .taken) (c .set-flag .ensures)
 
 returns-2 : tie.Need-returns-2
-returns-2 c = search needs
+unfolding pick
+returns-2 c = rw (c .if1 .left)
 
 pub flag-where-spec : {M : Type 1} → statement M
 flag-where-spec = tie.close (tie.spec set-flag-requires returns returns-2)

@@ -3,7 +3,8 @@ use Prim.Native.Nat.{_≤_}
 use mathlib.Core.Path.{refl}
 use native.Mathlib.Omega.{arith}
 use Rattle.sweep.specs.Line.{Between}
-use Rattle.sweep.proofs.Orders.{bit-small, between-all, between-more, between-fits}
+use Rattle.hypervolume.proofs.Tests.{holds-small}
+use Rattle.sweep.proofs.line.RankLaws.{between-all, between-more, between-fits}
 use borrow.Author.Needs.{needs}
 use Rattle.sweep.proofs.line.narrow.Statement.{statement}
 use Rattle.sweep.proofs.line.narrow.Tie as tie
@@ -76,13 +77,13 @@ turn c = c .before .before .before .before .before .before
 
 -- each answer is 0 or 1
 one : (c : tie.After-reaches3 Inv-loop μ-loop) → c .before .before .before .before .reaches .result ≤ 1
-one c = bit-small _ (c .before .before .before .before .reaches .ensures)
+one c = holds-small _ (c .before .before .before .before .reaches .ensures)
 
 two : (c : tie.After-reaches3 Inv-loop μ-loop) → c .before .before .reaches2 .result ≤ 1
-two c = bit-small _ (c .before .before .reaches2 .ensures)
+two c = holds-small _ (c .before .before .reaches2 .ensures)
 
 three : (c : tie.After-reaches3 Inv-loop μ-loop) → c .reaches3 .result ≤ 1
-three c = bit-small _ (c .reaches3 .ensures)
+three c = holds-small _ (c .reaches3 .ensures)
 
 add-low : tie.Need-add-low Inv-loop μ-loop
 add-low c = record { fits = omega (arith, one c, two c) }

@@ -1,7 +1,8 @@
 -- `rank` meets its contract: the entries that are left say the rest.
 use mathlib.Core.Path.{_≡_}
 use native.Mathlib.Omega.{arith}
-use Rattle.sweep.proofs.Orders.{bit-small, between-one, between-two, between-none}
+use Rattle.hypervolume.proofs.Tests.{holds-small}
+use Rattle.sweep.proofs.line.RankLaws.{between-one, between-two, between-none}
 use borrow.Author.Needs.{needs}
 use Rattle.sweep.proofs.line.rank.Statement.{statement}
 use Rattle.sweep.proofs.line.rank.Tie as tie
@@ -19,7 +20,7 @@ reaches-requires : tie.Need-reaches-requires
 reaches-requires c κs = search needs
 
 add-result : tie.Need-add-result
-add-result c = record { fits = omega (arith, bit-small _ (c .reaches .ensures), c .before .before .before .before .narrow .ensures .0 .within) }
+add-result c = record { fits = omega (arith, holds-small _ (c .reaches .ensures), c .before .before .before .before .narrow .ensures .0 .within) }
 
 add-reaches : tie.Need-add-reaches
 add-reaches c = search needs
@@ -34,7 +35,7 @@ reaches-requires-2 : tie.Need-reaches-requires-2
 reaches-requires-2 c κs = search needs
 
 add-result-2 : tie.Need-add-result-2
-add-result-2 c = record { fits = omega (arith, bit-small _ (c .before .before .reaches .ensures), bit-small _ (c .reaches2 .ensures), c .before .before .before .before .before .before .narrow .ensures .0 .within) }
+add-result-2 c = record { fits = omega (arith, holds-small _ (c .before .before .reaches .ensures), holds-small _ (c .reaches2 .ensures), c .before .before .before .before .before .before .narrow .ensures .0 .within) }
 
 returns : tie.Need-returns
 returns c = between-none (between-two (c .before .before .before .before .before .before .narrow .ensures .0) (c .before .before .before .before .if1 .taken) (c .before .before .reaches .ensures) (c .reaches2 .ensures)) (omega arith)
@@ -49,7 +50,7 @@ reaches-requires-3 : tie.Need-reaches-requires-3
 reaches-requires-3 c κs = search needs
 
 add-result-3 : tie.Need-add-result-3
-add-result-3 c = record { fits = omega (arith, bit-small _ (c .reaches3 .ensures), c .before .before .before .before .before .before .narrow .ensures .0 .within) }
+add-result-3 c = record { fits = omega (arith, holds-small _ (c .reaches3 .ensures), c .before .before .before .before .before .before .narrow .ensures .0 .within) }
 
 returns-2 : tie.Need-returns-2
 returns-2 c = between-none (between-one (c .before .before .before .before .before .before .narrow .ensures .0) (c .before .before .if2 .taken) (c .reaches3 .ensures)) (omega arith)

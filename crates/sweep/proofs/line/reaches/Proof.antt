@@ -1,5 +1,5 @@
 -- `reaches` meets its contract.
-use Rattle.sweep.proofs.Orders.{reaches-bit}
+use Rattle.sweep.proofs.line.RankLaws.{reaches-bit}
 use borrow.Author.Needs.{needs}
 use Rattle.sweep.proofs.line.reaches.Statement.{statement}
 use Rattle.sweep.proofs.line.reaches.Tie as tie

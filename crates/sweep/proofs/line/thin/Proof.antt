@@ -1,6 +1,6 @@
 -- `thin` meets its contract. The invariant: the walk so far.
 use Prim.Native.Nat.{_-_}
-use Rattle.sweep.proofs.Thinnings.{Walking, walking-none, walking-kept, walking-flagged, walking-less, walking-stop, walking-end}
+use Rattle.sweep.proofs.line.ThinLaws.{Walking, walking-none, walking-kept, walking-flagged, walking-less, walking-stop, walking-end}
 use borrow.Author.Needs.{needs}
 use Rattle.sweep.proofs.line.thin.Statement.{statement}
 use Rattle.sweep.proofs.line.thin.Tie as tie

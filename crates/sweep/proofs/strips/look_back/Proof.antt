@@ -1,6 +1,6 @@
 -- `look_back` meets its contract. The invariant: the column of the entries from k on.
 use mathlib.Core.Path.{sym, _∙_}
-use Rattle.sweep.proofs.Looks.{Looked, looked-none, looked-more, looked-stop, looked-all}
+use Rattle.sweep.proofs.strips.LookBackLaws.{Looked, looked-none, looked-more, looked-stop, looked-all}
 use borrow.Author.Needs.{needs}
 use Rattle.sweep.proofs.strips.look_back.Statement.{statement}
 use Rattle.sweep.proofs.strips.look_back.Tie as tie

@@ -3,7 +3,7 @@ use mathlib.Core.Path.{_≡_, ap, _∙_}
 use Prim.Native.Nat.{_-_}
 use borrow.Author.Needs.{needs}
 use Rattle.sweep.specs.Strips.{shared}
-use Rattle.sweep.proofs.Crossings.{settled-none, settling-area, settling-volume, settling-enough, settling-gain, settled-some}
+use Rattle.sweep.proofs.strips.SettleLaws.{settled-none, settling-area, settling-volume, settling-enough, settling-gain, settled-some}
 use Rattle.sweep.proofs.strips.settle.Statement.{statement}
 use Rattle.sweep.proofs.strips.settle.Tie as tie
 

@@ -6,8 +6,8 @@ use lib.ListN.{length, getD}
 use denote.Ref.{now}
 use borrow.Author.Count.{falls}
 use borrow.Author.Needs.{needs}
-use Rattle.sweep.specs.Line.{xOf}
-use Rattle.sweep.proofs.Crossings.{Swept, swept-none, swept-more, swept-fits, swept-stop, turn-settling, turn-settled, end-settling, end-settled, end-crossed}
+use Rattle.sweep.specs.Line.{x-of}
+use Rattle.sweep.proofs.strips.StripsLaws.{Swept, swept-none, swept-more, swept-fits, swept-stop, turn-settling, turn-settled, end-settling, end-settled, end-crossed}
 use Rattle.sweep.proofs.strips.strips.Statement.{statement}
 use Rattle.sweep.proofs.strips.strips.Tie as tie
 
@@ -48,7 +48,7 @@ turn c = c .before .before .before .before .before
 abbrev start : tie.In-loop Inv-loop μ-loop → tie.Start Inv-loop μ-loop
 start c = c .before .before .before .before .before
 
-next-is : (c : tie.After-smaller2 Inv-loop μ-loop) → c .smaller2 .result ≡ min (xOf (getD (now (start (turn c) .args .line)) (turn c .before .loop .k) 0)) (start (turn c) .args .rx)
+next-is : (c : tie.After-smaller2 Inv-loop μ-loop) → c .smaller2 .result ≡ min (x-of (getD (now (start (turn c) .args .line)) (turn c .before .loop .k) 0)) (start (turn c) .args .rx)
 next-is c = c .smaller2 .ensures ∙ ap (λ x. min x (start (turn c) .args .rx)) (c .before .x-of .ensures)
 
 settle-requires : tie.Need-settle-requires Inv-loop μ-loop

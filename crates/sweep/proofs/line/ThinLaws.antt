@@ -1,7 +1,7 @@
--- Making the line ready for the next point: of the entries behind it, those that it covers are flagged, and left out where
+-- `thin` makes the line ready for the next point: of the entries behind it, those that it covers are flagged, and left out where
 -- they had the flag. An entry left out is covered by the next point and by entries before it, so two still dominate each
 -- cell that it dominates (law 6).
-use Prim.Native.Nat.{ℕ, zero, suc, _+_, _-_, _≤_, _<_, min}
+use Prim.Native.Nat.{ℕ, _+_, _-_, _≤_, _<_}
 use mathlib.Core.Path.{_≡_, refl, sym, ap, _∙_}
 use mathlib.Core.Bool.{Bool, true, false}
 use mathlib.Core.List.{List, _∷_, _++_, append-assoc, append-nil, []}
@@ -10,61 +10,24 @@ use native.Mathlib.Numerals.{add-one}
 use native.Mathlib.Decide.{decLe, ℕ-discrete}
 use native.Mathlib.Omega.{arith}
 use lib.Dec.{leb, eqb}
-use lib.ListN.{length, take, drop, getD, set, length-append, length-take, length-drop, length-set, take-append-drop, drop-of-length-le}
-use lib.Seq.{append-snoc, drop-cons, drop-append-le, getD-take, getD-drop, take-take, take-nil, drop-drop, length-take-le, take-set-le, drop-set-lt, take-suc-set}
-use borrow.Author.Tests.{le-leb}
+use lib.ListN.{length, take, drop, getD, set, length-append, length-take, length-drop, length-set, drop-of-length-le}
+use lib.Seq.{append-snoc, drop-cons, drop-append-le, getD-take, getD-drop, drop-drop, length-take-le, take-set-le, drop-set-lt, take-suc-set}
 use Rattle.slices.specs.Choices.{both}
 use Rattle.hypervolume.specs.Cells.{holds, dominates}
 use Rattle.slices.proofs.Choices.{both-comm}
-use Rattle.hypervolume.proofs.Dominance.{first, rest, atMost, atMost-dominates}
-use Rattle.sweep.specs.Line.{tally, flagged, spot, xOf, yOf, indexOf, flagOf, over, overBy, low, Rising, FlagRight, Flagged, AlikeAt}
-use Rattle.sweep.specs.Entries.{Below, Thinned, Thinning, Walked}
-use Rattle.sweep.proofs.Tallies.{tally-append}
-use Rattle.sweep.proofs.Columns.{low-append, low-more, under as under′, beyond}
-use Rattle.sweep.proofs.Orders.{rising-back, rising-from, rising-less, rising-same}
-use Rattle.sweep.proofs.Flags.{over-append, over-cons, over-more, Fewer, fewer-same, flagged-fewer, flagged-back, flagged-join, flagged-one}
-
--- Lines that count alike at a cell.
-pub alike-then : {a b c : List ℕ} {i j : ℕ} → AlikeAt a b i j → AlikeAt b c i j → AlikeAt a c i j
-alike-then {a} {b} {c} {i} {j} h g =
-    record {
-      many = g .many ∙ h .many;
-      whose = λ t l. g .whose t (omega (arith, h .many)) ∙ h .whose t l;
-    }
-
-pub alike-same : {a b : List ℕ} {i j : ℕ} → over b (i ∷ j ∷ []) ≡ over a (i ∷ j ∷ []) → ((t : ℕ) → overBy t b (i ∷ j ∷ []) ≡ overBy t a (i ∷ j ∷ [])) → AlikeAt a b i j
-alike-same e f = record { many = ap (λ k. min k 2) e; whose = λ t l. f t }
-
--- A count of entries, with one of them at its place among the others.
-tally-middle : (test : ℕ → Bool) (u : ℕ) (front s : List ℕ) (w : ℕ) (t : List ℕ) → tally test (u ∷ (front ++ (s ++ (w ∷ t)))) ≡ holds (test w) + tally test (u ∷ (front ++ (s ++ t)))
-unfolding tally
-tally-middle test u front s w t =
-    let all : tally test (front ++ (s ++ (w ∷ t))) ≡ tally test front + (tally test s + (holds (test w) + tally test t)) =
-    tally-append test front (s ++ (w ∷ t)) ∙ ap (λ k. tally test front + k) (tally-append test s (w ∷ t)) in
-    let less : tally test (front ++ (s ++ t)) ≡ tally test front + (tally test s + tally test t) =
-    tally-append test front (s ++ t) ∙ ap (λ k. tally test front + k) (tally-append test s t) in
-    omega arith
-
--- A point that is at most another on both axes dominates what that one dominates.
-pub covers : (x y u v : ℕ) (c : List ℕ) → x ≤ u → y ≤ v → dominates (u ∷ v ∷ []) c ≡ true → dominates (x ∷ y ∷ []) c ≡ true
-unfolding atMost both first rest
-covers x y u v c l m d =
-    atMost-dominates (x ∷ y ∷ []) (u ∷ v ∷ []) c (rw (le-leb x u l, le-leb y v m)) d
-
-pub below-append : (n : ℕ) (s t : List ℕ) → Below n (s ++ t) → Below n s × Below n t
-unfolding Below
-below-append n [] t h = (tt, h)
-below-append n (w ∷ s) t h = let later = below-append n s t (h .1) in ((h .0, later .0), later .1)
-
-pub below-join : (n : ℕ) (s t : List ℕ) → Below n s → Below n t → Below n (s ++ t)
-unfolding Below
-below-join n [] t f g = g
-below-join n (w ∷ s) t f g = (f .0, below-join n s t (f .1) g)
+use Rattle.hypervolume.proofs.Dominance.{rest}
+use Rattle.sweep.specs.Line.{tally, flagged, spot, x-of, y-of, index-of, flag-of, over, over-by, low, Rising, FlagRight, Flagged, AlikeAt}
+use Rattle.sweep.specs.Entries.{Below, ThinnedLine, ThinningLine, Walked}
+use Rattle.sweep.proofs.Tally.{low-append, low-more, over-append, over-cons, over-more, tally-middle}
+use Rattle.sweep.proofs.column.WithLaws.{holds-under, holds-beyond}
+use Rattle.sweep.proofs.line.Rising.{rising-back, rising-from, rising-less, rising-same}
+use Rattle.sweep.proofs.line.Flags.{Fewer, fewer-same, flagged-fewer, flagged-back, flagged-join, flagged-one}
+use Rattle.sweep.proofs.line.Entries.{alike-then, alike-same, covers-further, below-append, below-join, take-drop, drop-take}
 
 -- The walk, with the entries that stay in `done` and those to come in `rest`.
 pub record Walk (front old : List ℕ) (next : ℕ) (done rest : List ℕ) : Type 0 where
   pub short : length done + length rest ≤ length old
-  pub rising : Rising (xOf next) (done ++ rest)
+  pub rising : Rising (x-of next) (done ++ rest)
   pub flags-done : Flagged (front ++ (next ∷ [])) done
   pub flags-rest : Flagged (front ++ done) rest
   pub alike : (i j : ℕ) → AlikeAt (next ∷ (front ++ old)) (next ∷ (front ++ (done ++ rest))) i j
@@ -77,7 +40,7 @@ module _ (front : List ℕ) (next : ℕ) (done : List ℕ) where
       over-append (front ++ (next ∷ [])) done c
       ∙ omega (arith, over-more front next c, over-append front done c)
 
-  low-with : (j : ℕ) → low ((front ++ (next ∷ [])) ++ done) j ≡ low (front ++ done) j + holds (leb (yOf next) j)
+  low-with : (j : ℕ) → low ((front ++ (next ∷ [])) ++ done) j ≡ low (front ++ done) j + holds (leb (y-of next) j)
   low-with j =
       low-append (front ++ (next ∷ [])) done j
       ∙ omega (arith, low-more front next j, low-append front done j)
@@ -92,7 +55,7 @@ module _ {front old : List ℕ} {next : ℕ} {done : List ℕ} {w : ℕ} {rest�
   later = h .flags-rest .1
 
   -- An entry stays as it is: one with the flag, that the next point does not cover.
-  pub walk-kept : flagOf w ≡ 1 → Walk front old next (done ++ (w ∷ [])) rest′
+  pub walk-kept : flag-of w ≡ 1 → Walk front old next (done ++ (w ∷ [])) rest′
   walk-kept e =
       record {
         short = omega (arith, h .short, length-append done (w ∷ []));
@@ -110,23 +73,23 @@ module _ {front old : List ℕ} {next : ℕ} {done : List ℕ} {w : ℕ} {rest�
       }
 
   -- An entry gets the flag: the next point covers it.
-  module _ (beyond : xOf next ≤ xOf w) (above : yOf next ≤ yOf w) where
+  module _ (beyond : x-of next ≤ x-of w) (above : y-of next ≤ y-of w) where
     v : ℕ
     v = flagged w
 
-    v-x : xOf v ≡ xOf w
+    v-x : x-of v ≡ x-of w
     unfolding v
     v-x = omega arith
 
-    v-y : yOf v ≡ yOf w
+    v-y : y-of v ≡ y-of w
     unfolding v
     v-y = omega arith
 
-    v-index : indexOf v ≡ indexOf w
+    v-index : index-of v ≡ index-of w
     unfolding v
     v-index = omega arith
 
-    v-flag : flagOf v ≡ 1
+    v-flag : flag-of v ≡ 1
     unfolding v
     v-flag = omega arith
 
@@ -136,11 +99,11 @@ module _ {front old : List ℕ} {next : ℕ} {done : List ℕ} {w : ℕ} {rest�
         ∙ rw e (sym (tally-middle test next front done w rest′))
 
     alike-flagged : (i j : ℕ) → AlikeAt (next ∷ (front ++ (done ++ (w ∷ rest′)))) (next ∷ (front ++ (done ++ (v ∷ rest′)))) i j
-    unfolding over overBy
+    unfolding over over-by
     alike-flagged i j =
         alike-same
         (same-tally (λ u. dominates (spot u) (i ∷ j ∷ [])) (rw (v-x, v-y)))
-        (λ t. same-tally (λ u. both (eqb (indexOf u) t) (dominates (spot u) (i ∷ j ∷ []))) (rw (v-x, v-y, v-index)))
+        (λ t. same-tally (λ u. both (eqb (index-of u) t) (dominates (spot u) (i ∷ j ∷ []))) (rw (v-x, v-y, v-index)))
 
     flagged-tells : Fewer ((front ++ done) ++ (w ∷ [])) ((front ++ done) ++ (v ∷ []))
     flagged-tells = fewer-same (front ++ done) v w v-x v-y
@@ -156,14 +119,14 @@ module _ {front old : List ℕ} {next : ℕ} {done : List ℕ} {w : ℕ} {rest�
     walk-flagged =
         record {
           short = omega (arith, h .short, length-append done (v ∷ []));
-          rising = rw (append-snoc done v rest′) (rising-same (xOf next) done v w rest′ v-x (h .rising));
+          rising = rw (append-snoc done v rest′) (rising-same (x-of next) done v w rest′ v-x (h .rising));
           flags-done =
               flagged-join (front ++ (next ∷ [])) done (v ∷ []) (h .flags-done)
               (flagged-one ((front ++ (next ∷ [])) ++ done) v
               (record {
                 clear = λ f. absurd (let no′ : ⊥ = omega (arith, v-flag) in no′);
                 set = λ f i j d.
-                    let too : dominates (spot next) (i ∷ j ∷ []) ≡ true = covers (xOf next) (yOf next) (xOf v) (yOf v) (i ∷ j ∷ []) (omega (arith, v-x)) (omega (arith, v-y)) d in
+                    let too : dominates (spot next) (i ∷ j ∷ []) ≡ true = covers-further (x-of next) (y-of next) (x-of v) (y-of v) (i ∷ j ∷ []) (omega (arith, v-x)) (omega (arith, v-y)) d in
                     rw (over-with front next done (i ∷ j ∷ []), too) (omega arith);
               }));
           flags-rest =
@@ -174,7 +137,7 @@ module _ {front old : List ℕ} {next : ℕ} {done : List ℕ} {w : ℕ} {rest�
         }
 
     -- An entry that had the flag is left out.
-    module _ (e : flagOf w ≡ 1) where
+    module _ (e : flag-of w ≡ 1) where
       all : List ℕ
       all = next ∷ (front ++ (done ++ (w ∷ rest′)))
 
@@ -185,15 +148,15 @@ module _ {front old : List ℕ} {next : ℕ} {done : List ℕ} {w : ℕ} {rest�
       unfolding all less over
       over-all c = tally-middle (λ u. dominates (spot u) c) next front done w rest′
 
-      overBy-all : (t : ℕ) (c : List ℕ) → overBy t all c ≡ holds (both (eqb (indexOf w) t) (dominates (spot w) c)) + overBy t less c
-      unfolding all less overBy
-      overBy-all t c = tally-middle (λ u. both (eqb (indexOf u) t) (dominates (spot u) c)) next front done w rest′
+      over-by-all : (t : ℕ) (c : List ℕ) → over-by t all c ≡ holds (both (eqb (index-of w) t) (dominates (spot w) c)) + over-by t less c
+      unfolding all less over-by
+      over-by-all t c = tally-middle (λ u. both (eqb (index-of u) t) (dominates (spot u) c)) next front done w rest′
 
       two-left : (i j : ℕ) → dominates (spot w) (i ∷ j ∷ []) ≡ true → 2 ≤ over less (i ∷ j ∷ [])
       unfolding less holds
       two-left i j d =
           let c = i ∷ j ∷ [] in
-          let too : dominates (spot next) c ≡ true = covers (xOf next) (yOf next) (xOf w) (yOf w) c beyond above d in
+          let too : dominates (spot next) c ≡ true = covers-further (x-of next) (y-of next) (x-of w) (y-of w) c beyond above d in
           let some : 1 ≤ over (front ++ done) c = here .set e i j d in
           let part : over (front ++ (done ++ rest′)) c ≡ over front c + (over done c + over rest′ c) =
           over-append front (done ++ rest′) c ∙ ap (λ k. over front c + k) (over-append done rest′ c) in
@@ -213,7 +176,7 @@ module _ {front old : List ℕ} {next : ℕ} {done : List ℕ} {w : ℕ} {rest�
           go false d =
               let same : over all (i ∷ j ∷ []) ≡ over less (i ∷ j ∷ []) = over-all (i ∷ j ∷ []) ∙ rw d (zero-add (over less (i ∷ j ∷ []))) in
               alike-same (sym same)
-              (λ t. sym (overBy-all t (i ∷ j ∷ []) ∙ rw (d, both-comm (eqb (indexOf w) t) false) (zero-add (overBy t less (i ∷ j ∷ [])))))
+              (λ t. sym (over-by-all t (i ∷ j ∷ []) ∙ rw (d, both-comm (eqb (index-of w) t) false) (zero-add (over-by t less (i ∷ j ∷ [])))))
 
       less-tells : Fewer ((front ++ done) ++ (w ∷ [])) (front ++ done)
       unfolding holds
@@ -241,7 +204,7 @@ module _ {front old : List ℕ} {next : ℕ} {done : List ℕ} {w : ℕ} {rest�
       walk-less =
           record {
             short = omega (arith, h .short);
-            rising = rising-less (xOf next) done w rest′ (h .rising);
+            rising = rising-less (x-of next) done w rest′ (h .rising);
             flags-done = h .flags-done;
             flags-rest = flagged-fewer ((front ++ done) ++ (w ∷ [])) (front ++ done) rest′ less-tells later;
             alike = λ i j. alike-then (h .alike i j) (alike-less i j);
@@ -250,31 +213,31 @@ module _ {front old : List ℕ} {next : ℕ} {done : List ℕ} {w : ℕ} {rest�
 
   -- The walk may stop at an entry without the flag that lies below the next point: of the entries behind it those without the
   -- flag lie no higher.
-  module _ (e : flagOf w ≡ 0) (under : yOf w < yOf next) where
+  module _ (e : flag-of w ≡ 0) (under : y-of w < y-of next) where
     stop-here : FlagRight ((front ++ (next ∷ [])) ++ done) w
     stop-here =
         record {
-          clear = λ f j l. low-with front next done j ∙ omega (arith, here .clear e j l, beyond (yOf next) j (let u : j < yOf next = omega arith in u));
+          clear = λ f j l. low-with front next done j ∙ omega (arith, here .clear e j l, holds-beyond (y-of next) j (let u : j < y-of next = omega arith in u));
           set = λ f. absurd (let no′ : ⊥ = omega arith in no′);
         }
 
     -- where no row below y is taken, y is at most that of w
-    stop-under : (y : ℕ) → ((j : ℕ) → j < y → low ((front ++ done) ++ (w ∷ [])) j ≡ 0) → y ≤ yOf w
-    stop-under y f = go (decLe y (yOf w))
+    stop-under : (y : ℕ) → ((j : ℕ) → j < y → low ((front ++ done) ++ (w ∷ [])) j ≡ 0) → y ≤ y-of w
+    stop-under y f = go (decLe y (y-of w))
       where
-        go : Dec (y ≤ yOf w) → y ≤ yOf w
+        go : Dec (y ≤ y-of w) → y ≤ y-of w
         go (yes l) = l
         go (no l) =
             absurd
-            (let no′ : ⊥ = omega (arith, f (yOf w) (let u : yOf w < y = omega arith in u), low-more (front ++ done) w (yOf w), under′ (yOf w) (yOf w) (let u : yOf w ≤ yOf w = omega arith in u)) in no′)
+            (let no′ : ⊥ = omega (arith, f (y-of w) (let u : y-of w < y = omega arith in u), low-more (front ++ done) w (y-of w), holds-under (y-of w) (y-of w) (let u : y-of w ≤ y-of w = omega arith in u)) in no′)
 
     stop-tells : Fewer ((front ++ done) ++ (w ∷ [])) (((front ++ (next ∷ [])) ++ done) ++ (w ∷ []))
     stop-tells =
         record {
           free = λ y f j l.
-              let short : y ≤ yOf w = stop-under y f in
+              let short : y ≤ y-of w = stop-under y f in
               low-more ((front ++ (next ∷ [])) ++ done) w j
-              ∙ omega (arith, f j l, low-more (front ++ done) w j, low-with front next done j, beyond (yOf next) j (let u : j < yOf next = omega arith in u));
+              ∙ omega (arith, f j l, low-more (front ++ done) w j, low-with front next done j, holds-beyond (y-of next) j (let u : j < y-of next = omega arith in u));
           some = λ i j l.
               omega (arith, over-more (front ++ done) w (i ∷ j ∷ []), over-more ((front ++ (next ∷ [])) ++ done) w (i ∷ j ∷ []), over-with front next done (i ∷ j ∷ []));
         }
@@ -284,7 +247,7 @@ module _ {front old : List ℕ} {next : ℕ} {done : List ℕ} {w : ℕ} {rest�
     stop-rest =
         (stop-here, flagged-fewer ((front ++ done) ++ (w ∷ [])) (((front ++ (next ∷ [])) ++ done) ++ (w ∷ [])) rest′ stop-tells later)
 
-    pub walk-stop : Thinned front old next (done ++ (w ∷ rest′))
+    pub walk-stop : ThinnedLine front old next (done ++ (w ∷ rest′))
     walk-stop =
         record {
           short = omega (arith, h .short, length-append done (w ∷ rest′));
@@ -294,7 +257,7 @@ module _ {front old : List ℕ} {next : ℕ} {done : List ℕ} {w : ℕ} {rest�
           below = h .below;
         }
 
-pub walk-end : {front old : List ℕ} {next : ℕ} {done : List ℕ} → Walk front old next done [] → Thinned front old next (done ++ [])
+pub walk-end : {front old : List ℕ} {next : ℕ} {done : List ℕ} → Walk front old next done [] → ThinnedLine front old next (done ++ [])
 unfolding Flagged
 walk-end {front} {old} {next} {done} h =
     record {
@@ -307,7 +270,7 @@ walk-end {front} {old} {next} {done} h =
 
 -- The walk over the words: the entries that stay end at `to`, those from `from` on are as they were.
 pub record Walking (line : List ℕ) (m at next : ℕ) (now : List ℕ) (to from : ℕ) : Type 0 where
-  pub asked : Thinning line m at next
+  pub asked : ThinningLine line m at next
   pub long : length now ≡ length line
   pub front : at ≤ to
   pub gap : to ≤ from
@@ -316,10 +279,7 @@ pub record Walking (line : List ℕ) (m at next : ℕ) (now : List ℕ) (to from
   pub unread : drop from now ≡ drop from line
   pub walk : Walk (take at line) (drop at (take m line)) next (drop at (take to now)) (drop from (take m line))
 
-pub take-drop : (at m : ℕ) (l : List ℕ) → at ≤ m → take at l ++ drop at (take m l) ≡ take m l
-take-drop at m l p = rw (← (take-take at m l p)) (take-append-drop at (take m l))
-
-pub walking-none : (line : List ℕ) (m at next : ℕ) → Thinning line m at next → Walking line m at next line at at
+pub walking-none : (line : List ℕ) (m at next : ℕ) → ThinningLine line m at next → Walking line m at next line at at
 unfolding Flagged
 walking-none line m at next h =
     let none : drop at (take at line) ≡ [] = drop-of-length-le (take at line) {i = at} (omega (arith, length-take at line)) in
@@ -351,33 +311,25 @@ walking-none line m at next h =
         record {
           short = omega arith;
           rising =
-              rising-from 0 (xOf next) back (rising-back 0 front back (rw whole (h .kept .rising)))
+              rising-from 0 (x-of next) back (rising-back 0 front back (rw whole (h .valid .rising)))
               (λ k l.
               let inside : at + k < m = omega (arith, many) in
               rw (getD-drop at (take m line) k 0, getD-take m line (at + k) 0 inside) (h .beyond (at + k) (omega arith) inside));
           flags-done = tt;
-          flags-rest = rw (append-nil front) (flagged-back [] front back (rw whole (h .kept .flags)));
+          flags-rest = rw (append-nil front) (flagged-back [] front back (rw whole (h .valid .flags)));
           alike = λ i j. alike-same refl (λ t. refl);
           below = λ n b. b;
         }
 
-pub drop-take : (from m : ℕ) (l : List ℕ) → drop from (take m l) ≡ take (m - from) (drop from l)
-drop-take zero m l = let all : m - 0 ≡ m = omega arith in rw all
-drop-take (suc from) zero l = let none : 0 - suc from ≡ 0 = omega arith in rw none
-drop-take (suc from) (suc m) [] = sym (take-nil (suc m - suc from))
-drop-take (suc from) (suc m) (w ∷ l) =
-    let less : suc m - suc from ≡ m - from = omega arith in
-    drop-take from m l ∙ ap (λ k. take k (drop from l)) (sym less)
-
-odd : (w : ℕ) → (flagOf w ≡ 0 → ⊥) → flagOf w ≡ 1
-odd w n = go (ℕ-discrete (flagOf w) 0)
+odd : (w : ℕ) → (flag-of w ≡ 0 → ⊥) → flag-of w ≡ 1
+odd w n = go (ℕ-discrete (flag-of w) 0)
   where
-    go : Dec (flagOf w ≡ 0) → flagOf w ≡ 1
+    go : Dec (flag-of w ≡ 0) → flag-of w ≡ 1
     go (yes e) = absurd (n e)
-    go (no m) = let some : (flagOf w ≡ 0) → ⊥ = m in omega arith
+    go (no m) = let some : (flag-of w ≡ 0) → ⊥ = m in omega arith
 
 module _ {line : List ℕ} {m at next : ℕ} {now : List ℕ} {to from : ℕ} (h : Walking line m at next now to from) (l : from < m) where
-  asked′ : Thinning line m at next
+  asked′ : ThinningLine line m at next
   asked′ = h .asked
 
   rest-is : drop from (take m line) ≡ getD line from 0 ∷ drop (from + 1) (take m line)
@@ -396,7 +348,7 @@ module _ {line : List ℕ} {m at next : ℕ} {now : List ℕ} {to from : ℕ} (h
   come-to : Walk (take at line) (drop at (take m line)) next (drop at (take to now)) (getD now from 0 ∷ drop (from + 1) (take m line))
   come-to = rw (walking-entry, ← rest-is) (h .walk)
 
-  ahead : xOf next ≤ xOf (getD now from 0)
+  ahead : x-of next ≤ x-of (getD now from 0)
   ahead = rw walking-entry (asked′ .beyond from (omega (arith, h .front, h .gap)) l)
 
   unread-more : drop (from + 1) now ≡ drop (from + 1) line
@@ -424,15 +376,15 @@ module _ {line : List ℕ} {m at next : ℕ} {now : List ℕ} {to from : ℕ} (h
         walk = rw done g;
       }
 
-  pub walking-kept : {f : ℕ} → f ≡ flagOf (getD now from 0) → (f ≡ 0 → ⊥) → Walking line m at next (set now to (getD now from 0)) (to + 1) (from + 1)
+  pub walking-kept : {f : ℕ} → f ≡ flag-of (getD now from 0) → (f ≡ 0 → ⊥) → Walking line m at next (set now to (getD now from 0)) (to + 1) (from + 1)
   walking-kept {f} e n =
-      write (getD now from 0) (walk-kept come-to (let one : flagOf (getD now from 0) ≡ 1 = odd (getD now from 0) (λ q. n (e ∙ q)) in one))
+      write (getD now from 0) (walk-kept come-to (let one : flag-of (getD now from 0) ≡ 1 = odd (getD now from 0) (λ q. n (e ∙ q)) in one))
 
-  module _ {y v : ℕ} (e : y ≡ yOf next) (g : v ≡ yOf (getD now from 0)) (above : y ≤ v) where
+  module _ {y v : ℕ} (e : y ≡ y-of next) (g : v ≡ y-of (getD now from 0)) (above : y ≤ v) where
     pub walking-flagged : {w : ℕ} → w ≡ flagged (getD now from 0) → Walking line m at next (set now to w) (to + 1) (from + 1)
     walking-flagged f = rw f (write (flagged (getD now from 0)) (walk-flagged come-to ahead (omega arith)))
 
-    pub walking-less : {f : ℕ} → f ≡ flagOf (getD now from 0) → (f ≡ 0 → ⊥) → Walking line m at next now to (from + 1)
+    pub walking-less : {f : ℕ} → f ≡ flag-of (getD now from 0) → (f ≡ 0 → ⊥) → Walking line m at next now to (from + 1)
     walking-less {f} i n =
         record {
           asked = h .asked;
@@ -449,12 +401,13 @@ module _ {line : List ℕ} {m at next : ℕ} {now : List ℕ} {to from : ℕ} (h
   unread-part =
       drop-take from m now ∙ ap (take (m - from)) (h .unread) ∙ sym (drop-take from m line)
 
-  pub walking-stop : {y v f : ℕ} → y ≡ yOf next → v ≡ yOf (getD now from 0) → v < y → f ≡ flagOf (getD now from 0) → f ≡ 0 → Walked line m at next now to from
+  pub walking-stop : {y v f : ℕ} → y ≡ y-of next → v ≡ y-of (getD now from 0) → v < y → f ≡ flag-of (getD now from 0) → f ≡ 0 → Walked line m at next now to from
   walking-stop e g under′ i n =
       record {
         front = h .front;
         gap = h .gap;
         within = h .within;
+        long = h .long;
         before = h .before;
         thinned = rw (unread-part, rest-is, ← walking-entry) (walk-stop come-to (sym i ∙ n) (omega arith));
       }
@@ -465,6 +418,7 @@ walking-end {line} {m} {at} {next} {now} {to} {from} h l =
       front = h .front;
       gap = h .gap;
       within = h .within;
+      long = h .long;
       before = h .before;
       thinned = rw (none now) (walk-end (rw (none line) at (h .walk)));
     }

@@ -1,4 +1,4 @@
--- Putting counts at their places.
+-- `spread`: counts put at their places.
 use Prim.Native.Nat.{ℕ, zero, suc, _+_, _≤_, _<_}
 use mathlib.Core.Path.{_≡_, refl, sym, _∙_}
 use mathlib.Core.List.{List, _∷_, []}

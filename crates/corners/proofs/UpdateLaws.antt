@@ -7,19 +7,21 @@ use mathlib.Core.List.{List, _∷_, _++_, map, map-map, []}
 use mathlib.Core.Logic.{_⊎_, inl, inr}
 use native.Mathlib.Decide.{decLe}
 use native.Mathlib.Omega.{arith}
-use lib.ListN.{length, take, drop, getD, replicate, length-append, length-drop, length-take, length-map, length-replicate, getD-replicate, List·getD-append, List·getD-eq-default}
-use lib.Seq.{take-at, take-all, length-take-le, getD-take, getD-drop, getD-append-add}
+use lib.ListN.{length, take, drop, getD, replicate, length-take, length-map, length-replicate, getD-replicate, List·getD-eq-default}
+use lib.Seq.{take-at, take-all, length-take-le, getD-take}
+use Rattle.slices.specs.Put.{put}
+use Rattle.slices.proofs.Put.{length-put, put-inside, put-behind}
+use native.Mathlib.Nat.{zero-add}
 use Rattle.hypervolume.specs.Cells.{dominates, join, edges}
 use Rattle.hypervolume.specs.Counts.{total, contribution, gain, contributions, joints}
 use Rattle.hypervolume.proofs.Counting.{joint-corner, gain-edges, Twice}
-use Rattle.sweep.specs.Points.{points, Small, Ascending, Ready}
-use Rattle.corners.specs.Limits.{Alike, Limits, kept, corners, Raised, Stands, Collected, Spreading, spread}
-use Rattle.sweep.proofs.Lists.{ascending-at, getD-mapped, front-then}
-use Rattle.sweep.proofs.Coordinates.{points-length, points-at}
-use Rattle.sweep.proofs.Sweeps.{three}
-use Rattle.corners.proofs.Keeping.{kept-total, kept-contribution, rest-contribution, limit-twice}
-use Rattle.corners.proofs.Collections.{corners-length, corner-at}
-use Rattle.corners.proofs.Spreads.{Due, due-right, due-beyond, spread-length}
+use Rattle.sweep.specs.Points.{SameLength, zip-points, Small, Ascending, Ready}
+use Rattle.corners.specs.Limits.{Limits, passing, corners, CornersOn, Stands, Collected, Spreading, spread}
+use Rattle.sweep.proofs.Coordinates.{ascending-at, points-length, points-at, three}
+use Rattle.sweep.proofs.Front.{getD-mapped, front-then}
+use Rattle.corners.proofs.Passing.{passing-total, passing-contribution, failing-contribution, limit-twice}
+use Rattle.corners.proofs.limits.CollectLaws.{corners-length, corner-at}
+use Rattle.corners.proofs.limits.SpreadLaws.{Due, due-right, due-beyond, spread-length}
 
 -- The joint contributions with u are the corners' contributions.
 corners-joints : (r u : List ℕ) (trials : List (List ℕ)) → contributions r (map (join u) trials) ≡ joints r trials u
@@ -29,15 +31,15 @@ corners-joints r u trials =
     ∙ ap (λ f. map f trials) (fun-ext (λ t. sym (joint-corner r trials u t)))
 
 -- The collected coordinates are as the sweep asks.
-raised-small : (u : ℕ) (src places ks : List ℕ) (m : ℕ) → u ≤ 1048576 → Small src → Raised u src places ks m → Small (take m ks)
-raised-small u src places ks m s h e k = go (decLe (suc k) m)
+corners-on-small : (u : ℕ) (src places ks : List ℕ) (m : ℕ) → u ≤ 1048576 → Small src → CornersOn u src places ks m → Small (take m ks)
+corners-on-small u src places ks m s h e k = go (decLe (suc k) m)
   where
     go : Dec (k < m) → getD (take m ks) k 0 ≤ 1048576
     go (yes a) = rw (getD-take m ks k 0 a, e k a) (omega (arith, h (getD places k 0)))
     go (no a) = rw (List·getD-eq-default (take m ks) 0 {n = k} (omega (arith, length-take m ks))) (omega arith)
 
-raised-ascending : (u : ℕ) (src places ks : List ℕ) (m : ℕ) → Ascending src → Raised u src places ks m → ((k : ℕ) → k < m → getD places k 0 < length src) → ((k : ℕ) → suc k < m → getD places k 0 < getD places (suc k) 0) → Ascending (take m ks)
-raised-ascending u src places ks m h e inside rising k l =
+corners-on-ascending : (u : ℕ) (src places ks : List ℕ) (m : ℕ) → Ascending src → CornersOn u src places ks m → ((k : ℕ) → k < m → getD places k 0 < length src) → ((k : ℕ) → suc k < m → getD places k 0 < getD places (suc k) 0) → Ascending (take m ks)
+corners-on-ascending u src places ks m h e inside rising k l =
     let before : suc k < m = omega (arith, length-take m ks) in
     let upward : getD src (getD places k 0) 0 ≤ getD src (getD places (suc k) 0) 0 =
     ascending-at src h (getD places k 0) (getD places (suc k) 0) (omega (arith, rising k before)) (inside (suc k) before) in
@@ -49,7 +51,7 @@ pub record Prepared (u xs ys zs r out limit kx ky kz places : List ℕ) (m : ℕ
   pub axes : length u ≡ 3
   pub ready : Ready xs ys zs r out
   pub small : Small u
-  pub limits : Limits (points xs ys zs) u limit
+  pub limits : Limits (zip-points xs ys zs) u limit
   pub kx-long : length kx ≡ 512
   pub ky-long : length ky ≡ 512
   pub kz-long : length kz ≡ 512
@@ -61,7 +63,7 @@ module _ {u xs ys zs r out limit kx ky kz places : List ℕ} {m : ℕ} (h : Prep
   all = corners u xs ys zs
 
   abbrev some : List (List ℕ)
-  some = points (take m kx) (take m ky) (take m kz)
+  some = zip-points (take m kx) (take m ky) (take m kz)
 
   abbrev test : List ℕ → Bool
   test t = dominates t limit
@@ -81,8 +83,8 @@ module _ {u xs ys zs r out limit kx ky kz places : List ℕ} {m : ℕ} (h : Prep
   pub places-many : length (take m places) ≡ m
   places-many = length-take-le m places (omega (arith, few, h .places-long))
 
-  alike : Alike xs ys zs
-  alike = record { ys-many = h .ready .ys-many; zs-many = h .ready .zs-many }
+  same-length : SameLength xs ys zs
+  same-length = record { ys-many = h .ready .ys-many; zs-many = h .ready .zs-many }
 
   pub prepared-ready : {counts : List ℕ} → length counts ≡ 512 → Ready (take m kx) (take m ky) (take m kz) r counts
   prepared-ready e =
@@ -91,18 +93,18 @@ module _ {u xs ys zs r out limit kx ky kz places : List ℕ} {m : ℕ} (h : Prep
         ys-many = ky-many ∙ sym kx-many;
         zs-many = kz-many ∙ sym kx-many;
         room = omega (arith, few, kx-many);
-        xs-small = raised-small (getD u 0 0) xs places kx m (h .small 0) (h .ready .xs-small) (h .collected .x);
-        ys-small = raised-small (getD u 1 0) ys places ky m (h .small 1) (h .ready .ys-small) (h .collected .y);
-        zs-small = raised-small (getD u 2 0) zs places kz m (h .small 2) (h .ready .zs-small) (h .collected .z);
+        xs-small = corners-on-small (getD u 0 0) xs places kx m (h .small 0) (h .ready .xs-small) (h .collected .x);
+        ys-small = corners-on-small (getD u 1 0) ys places ky m (h .small 1) (h .ready .ys-small) (h .collected .y);
+        zs-small = corners-on-small (getD u 2 0) zs places kz m (h .small 2) (h .ready .zs-small) (h .collected .z);
         reference-small = h .ready .reference-small;
         rising =
-            raised-ascending (getD u 2 0) zs places kz m (h .ready .rising) (h .collected .z)
+            corners-on-ascending (getD u 2 0) zs places kz m (h .ready .rising) (h .collected .z)
             (λ k l. omega (arith, h .collected .inside k l, h .ready .zs-many)) (h .collected .rising);
       }
 
   -- The corners collected are those within the limits.
-  kept-all : some ≡ kept test all
-  kept-all = h .collected .all ∙ ap (kept test) (take-all (length xs) all (omega (arith, corners-length u alike)))
+  passing-all : some ≡ passing test all
+  passing-all = h .collected .all ∙ ap (passing test) (take-all (length xs) all (omega (arith, corners-length u same-length)))
 
   -- The others may be left out.
   point-small : (j a : ℕ) → getD (getD xs j 0 ∷ getD ys j 0 ∷ getD zs j 0 ∷ []) a 0 ≤ 1048576
@@ -111,25 +113,25 @@ module _ {u xs ys zs r out limit kx ky kz places : List ℕ} {m : ℕ} (h : Prep
   point-small j (suc (suc zero)) = h .ready .zs-small j
   point-small j (suc (suc (suc a))) = omega arith
 
-  left-out : (j : ℕ) → j < length all → test (getD all j []) ≡ false → Twice (kept test all) (getD all j [])
+  left-out : (j : ℕ) → j < length all → test (getD all j []) ≡ false → Twice (passing test all) (getD all j [])
   left-out j l e =
-      let here : j < length xs = omega (arith, corners-length u alike) in
-      let corner = corner-at u alike j here in
+      let here : j < length xs = omega (arith, corners-length u same-length) in
+      let corner = corner-at u same-length j here in
       rw corner
       (limit-twice (h .limits) long (getD xs j 0 ∷ getD ys j 0 ∷ getD zs j 0 ∷ []) (point-small j) (rw corner at e))
     where
-      long : (i : ℕ) → i < length (points xs ys zs) → length (getD (points xs ys zs) i []) ≤ length u
+      long : (i : ℕ) → i < length (zip-points xs ys zs) → length (getD (zip-points xs ys zs) i []) ≤ length u
       long i q =
           rw (points-at xs ys zs i (h .ready .ys-many) (h .ready .zs-many) (omega (arith, points-length xs ys zs (h .ready .ys-many) (h .ready .zs-many))))
           (omega (arith, h .axes))
 
-  whole : edges r u ≡ total r some + gain r (points xs ys zs) u
-  whole = rw (kept-all, kept-total r test all left-out) (gain-edges r (points xs ys zs) u)
+  whole : edges r u ≡ total r some + gain r (zip-points xs ys zs) u
+  whole = rw (passing-all, passing-total r test all left-out) (gain-edges r (zip-points xs ys zs) u)
 
   pub prepared-enough : {covered product : ℕ} → covered ≡ total r some → product ≡ edges r u → covered ≤ product
   prepared-enough e f = omega (arith, whole)
 
-  pub prepared-gain : {covered product : ℕ} → covered ≡ total r some → product ≡ edges r u → product - covered ≡ gain r (points xs ys zs) u
+  pub prepared-gain : {covered product : ℕ} → covered ≡ total r some → product ≡ edges r u → product - covered ≡ gain r (zip-points xs ys zs) u
   prepared-gain e f = omega (arith, whole)
 
   -- The count that is due to the j-th point.
@@ -145,10 +147,10 @@ module _ {u xs ys zs r out limit kx ky kz places : List ℕ} {m : ℕ} (h : Prep
       points-at (take m kx) (take m ky) (take m kz) k (ky-many ∙ sym kx-many) (kz-many ∙ sym kx-many) (omega (arith, kx-many))
       ∙ rw (getD-take m kx k 0 l, getD-take m ky k 0 l, getD-take m kz k 0 l, h .collected .x k l, h .collected .y k l, h .collected .z k l)
       (ap (λ v. join v (getD xs (getD places k 0) 0 ∷ getD ys (getD places k 0) 0 ∷ getD zs (getD places k 0) 0 ∷ [])) (three u (h .axes)))
-      ∙ sym (corner-at u alike (getD places k 0) (h .collected .inside k l))
+      ∙ sym (corner-at u same-length (getD places k 0) (h .collected .inside k l))
 
   -- What the sweep leaves, and the counts cleared before it.
-  module _ (blank : List ℕ) {counts left : List ℕ} (e : counts ≡ contributions r some ++ drop (length (take m kx)) blank) (f : left ≡ replicate (length xs) 0 ++ drop (length xs) out) where
+  module _ (blank : List ℕ) {counts left : List ℕ} (e : counts ≡ contributions r some ++ drop (length (take m kx)) blank) (f : left ≡ put out 0 (replicate (length xs) 0)) where
     counts-many : length (contributions r some) ≡ m
     unfolding contributions
     counts-many = length-map some (λ t. contribution r some t) ∙ some-many
@@ -160,26 +162,24 @@ module _ {u xs ys zs r out limit kx ky kz places : List ℕ} {m : ℕ} (h : Prep
     unfolding contributions
     lent-at k l =
         rw lent
-        (getD-mapped (λ t. contribution r some t) [] some k (omega (arith, some-many))
-        ∙ rw (some-at k l, kept-all) (kept-contribution r test all left-out (getD all (getD places k 0) [])))
+        (getD-mapped (λ t. contribution r some t) [] 0 some k (omega (arith, some-many))
+        ∙ rw (some-at k l, passing-all) (passing-contribution r test all left-out (getD all (getD places k 0) [])))
+
+    zeros-fit : 0 + length (replicate {A = ℕ} (length xs) 0) ≤ length out
+    zeros-fit = omega (arith, length-replicate {A = ℕ} (length xs) 0, h .ready .room)
 
     left-long : length left ≡ length out
-    left-long = rw f (omega (arith, length-append (replicate (length xs) 0) (drop (length xs) out), length-replicate {A = ℕ} (length xs) 0, length-drop (length xs) out, h .ready .room))
+    left-long = ap length f ∙ length-put out 0 (replicate (length xs) 0) zeros-fit
 
     left-zero : (j : ℕ) → j < length xs → getD left j 0 ≡ 0
     left-zero j l =
-        rw (f, List·getD-append (replicate (length xs) 0) (drop (length xs) out) 0 j (omega (arith, length-replicate {A = ℕ} (length xs) 0)))
-        (getD-replicate (length xs) j 0 0 l)
+        rw (f, ← (zero-add j))
+        (put-inside out 0 (replicate (length xs) 0) zeros-fit j (omega (arith, length-replicate {A = ℕ} (length xs) 0))
+        ∙ getD-replicate (length xs) j 0 0 l)
 
     left-old : (j : ℕ) → length xs ≤ j → getD left j 0 ≡ getD out j 0
     left-old j l =
-        let split : j ≡ length {A = ℕ} (replicate (length xs) 0) + (j - length xs) = omega (arith, length-replicate {A = ℕ} (length xs) 0) in
-        let again : j ≡ length xs + (j - length xs) = omega arith in
-        rw f
-        (ap (λ i. getD (replicate (length xs) 0 ++ drop (length xs) out) i 0) split
-        ∙ getD-append-add (replicate (length xs) 0) (drop (length xs) out) (j - length xs) 0
-        ∙ getD-drop (length xs) out (j - length xs) 0
-        ∙ ap (λ i. getD out i 0) (sym again))
+        rw f (put-behind out 0 (replicate (length xs) 0) zeros-fit j (omega (arith, length-replicate {A = ℕ} (length xs) 0)))
 
     inside : (k : ℕ) → k < length (take m places) → getD (take m places) k 0 < length xs
     inside k l =
@@ -218,30 +218,30 @@ module _ {u xs ys zs r out limit kx ky kz places : List ℕ} {m : ℕ} (h : Prep
               here = getD-take m places (s .k) 0 (s .within) ∙ s .here;
             })
         every j l false q =
-            inl (left-zero j l ∙ sym (rest-contribution r test all left-out j (omega (arith, corners-length u alike)) q))
+            inl (left-zero j l ∙ sym (failing-contribution r test all left-out j (omega (arith, corners-length u same-length)) q))
 
-    joints-at : (j : ℕ) → j < length xs → getD (joints r (points xs ys zs) u) j 0 ≡ due j
+    joints-at : (j : ℕ) → j < length xs → getD (joints r (zip-points xs ys zs) u) j 0 ≡ due j
     unfolding contributions
     joints-at j l =
-        rw (← (corners-joints r u (points xs ys zs)))
-        (getD-mapped (λ t. contribution r all t) [] all j (omega (arith, corners-length u alike)))
+        rw (← (corners-joints r u (zip-points xs ys zs)))
+        (getD-mapped (λ t. contribution r all t) [] 0 all j (omega (arith, corners-length u same-length)))
 
-    joints-many : length (joints r (points xs ys zs) u) ≡ length xs
+    joints-many : length (joints r (zip-points xs ys zs) u) ≡ length xs
     unfolding contributions
     joints-many =
-        rw (← (corners-joints r u (points xs ys zs)))
-        (length-map all (λ t. contribution r all t) ∙ corners-length u alike)
+        rw (← (corners-joints r u (zip-points xs ys zs)))
+        (length-map all (λ t. contribution r all t) ∙ corners-length u same-length)
 
-    pub prepared-joints : {end : List ℕ} → end ≡ spread left (take m places) (take m counts) → end ≡ joints r (points xs ys zs) u ++ drop (length xs) out
+    pub prepared-joints : {end : List ℕ} → end ≡ spread left (take m places) (take m counts) → end ≡ joints r (zip-points xs ys zs) u ++ drop (length xs) out
     prepared-joints {end} q =
         rw (← joints-many)
-        (front-then end (joints r (points xs ys zs) u) out
+        (front-then end (joints r (zip-points xs ys zs) u) out
         (rw q (spread-length left (take m places) (take m counts) ∙ left-long))
         (omega (arith, joints-many, h .ready .room))
         (λ j l. front j (omega (arith, joints-many)))
         (λ j l. back j (omega (arith, joints-many))))
       where
-        front : (j : ℕ) → j < length xs → getD end j 0 ≡ getD (joints r (points xs ys zs) u) j 0
+        front : (j : ℕ) → j < length xs → getD end j 0 ≡ getD (joints r (zip-points xs ys zs) u) j 0
         front j l = rw (q, due-right due (length xs) left (take m places) (take m counts) spreads j l) (sym (joints-at j l))
 
         back : (j : ℕ) → length xs ≤ j → getD end j 0 ≡ getD out j 0

@@ -1,26 +1,25 @@
--- The limits of an update: on each axis the second least of the offers that the points make.
+-- `limits`: on each axis the second least of the offers that the points make.
 use Prim.Native.Nat.{ℕ, zero, suc, _+_, _≤_, _<_, max}
-use mathlib.Core.Path.{_≡_, refl, sym, ap, _∙_}
+use mathlib.Core.Path.{_≡_, refl, ap}
 use mathlib.Core.Bool.{Bool, true, false}
 use mathlib.Core.List.{List, _∷_, _++_, []}
 use native.Mathlib.Nat.{le-trans}
 use native.Mathlib.Numerals.{add-one}
 use native.Mathlib.Omega.{arith}
-use lib.Dec.{leb, eqb}
+use lib.Dec.{leb}
 use lib.ListN.{length, take, drop, getD, set, take-append-drop}
 use lib.Seq.{take-suc}
-use borrow.Author.Tests.{leb-true, le-leb, eq-eqb, ne-eqb}
-use Rattle.slices.specs.Choices.{both}
+use borrow.Author.Tests.{leb-true, le-leb}
+use Rattle.slices.specs.Choices.{both, pick}
 use Rattle.hypervolume.specs.Cells.{holds, dominates}
 use Rattle.hypervolume.specs.Counts.{cover}
-use Rattle.hypervolume.proofs.Tests.{Compared, below, above, compared, holds-le-one}
+use Rattle.hypervolume.proofs.Tests.{Compared, below, above, compared}
 use Rattle.slices.proofs.Choices.{both-true, both-intro}
 use Rattle.hypervolume.proofs.Dominance.{cover-append}
 use Rattle.corners.specs.declared.limits.Two.{Two}
-use Rattle.sweep.specs.Points.{points, Small}
-use Rattle.corners.specs.Limits.{pickTwo, twoWith, axesWithin, offer, Alike, Limits}
-use Rattle.sweep.proofs.Coordinates.{points-length, points-at}
-use Rattle.sweep.proofs.Sweeps.{three}
+use Rattle.sweep.specs.Points.{SameLength, zip-points, Small}
+use Rattle.corners.specs.Limits.{two-with, offer, Limits}
+use Rattle.sweep.proofs.Coordinates.{points-length, points-at, three}
 
 -- A limit that is raised loses no point.
 raised-dominates : (p u : List ℕ) (a m n : ℕ) → m ≤ n → dominates p (set u a m) ≡ true → dominates p (set u a n) ≡ true
@@ -46,20 +45,20 @@ raised-cover (t ∷ trials) u a m n l =
     omega (arith, implied (dominates t (set u a m)) (dominates t (set u a n)) (raised-dominates t u a m n l), raised-cover trials u a m n l)
 
 -- What the two least offers on the axis a say of the points passed.
-pub record Least (passed : List (List ℕ)) (u : List ℕ) (a : ℕ) (two : Two) : Type 0 where
+pub record TwoLeast (passed : List (List ℕ)) (u : List ℕ) (a : ℕ) (two : Two) : Type 0 where
   pub one : two .least < 1048576 → 1 ≤ cover passed (set u a (two .least))
   pub more : two .second < 1048576 → 2 ≤ cover passed (set u a (two .second))
 
-least-none : (passed : List (List ℕ)) (u : List ℕ) (a : ℕ) → Least passed u a (record { least = 1048576; second = 1048576 })
-least-none passed u a =
+two-least-none : (passed : List (List ℕ)) (u : List ℕ) (a : ℕ) → TwoLeast passed u a (record { least = 1048576; second = 1048576 })
+two-least-none passed u a =
     record {
       one = λ l. absurd (let no′ : ⊥ = omega arith in no′);
       more = λ l. absurd (let no′ : ⊥ = omega arith in no′);
     }
 
-least-more : {passed : List (List ℕ)} {u : List ℕ} {a : ℕ} {two : Two} (p : List ℕ) (n : ℕ) → Least passed u a two → (n < 1048576 → dominates p (set u a n) ≡ true) → Least (passed ++ (p ∷ [])) u a (twoWith two n)
-unfolding twoWith cover holds
-least-more {passed} {u} {a} {two} p n h offered =
+two-least-more : {passed : List (List ℕ)} {u : List ℕ} {a : ℕ} {two : Two} (p : List ℕ) (n : ℕ) → TwoLeast passed u a two → (n < 1048576 → dominates p (set u a n) ≡ true) → TwoLeast (passed ++ (p ∷ [])) u a (two-with two n)
+unfolding two-with pick cover holds
+two-least-more {passed} {u} {a} {two} p n h offered =
     go (leb (two .second) n) (leb (two .least) n) (compared (two .second) n) (compared (two .least) n)
   where
     -- the points passed, and p where its offer is at most the limit
@@ -69,7 +68,7 @@ least-more {passed} {u} {a} {two} p n h offered =
     p-too : (limit : ℕ) → n ≤ limit → limit < 1048576 → holds (dominates p (set u a limit)) ≡ 1
     p-too limit l m = ap holds (raised-dominates p u a n limit l (offered (omega arith)))
 
-    go : (s t : Bool) → Compared (two .second) n s → Compared (two .least) n t → Least (passed ++ (p ∷ [])) u a (pickTwo s two (pickTwo t (record { least = two .least; second = n }) (record { least = n; second = two .least })))
+    go : (s t : Bool) → Compared (two .second) n s → Compared (two .least) n t → TwoLeast (passed ++ (p ∷ [])) u a (pick s two (pick t (record { least = two .least; second = n }) (record { least = n; second = two .least })))
     go true t (below l) m =
         record {
           one = λ q. omega (arith, with-p (two .least), h .one q);
@@ -88,7 +87,7 @@ least-more {passed} {u} {a} {two} p n h offered =
 
 -- An offer that limits anything is of a point at most u on the two other axes.
 offer-made : (t : Bool) (n v : ℕ) → v ≡ offer t n → v < 1048576 → (t ≡ true) × (v ≡ n)
-unfolding offer
+unfolding offer pick
 offer-made true n v e l = (refl, e)
 offer-made false n v e l = absurd (let no′ : ⊥ = omega arith in no′)
 
@@ -116,14 +115,14 @@ module _ (x y z ux uy uz : ℕ) {v : ℕ} where
       dominates-three x y z ux uy v (leb-true x ux (low .0)) (leb-true y uy (low .1)) (omega (arith, made .1))
 
 -- The limits that they make.
-least-limits : {passed : List (List ℕ)} (ux uy uz : ℕ) {on-x on-y on-z : Two} {nx ny nz : ℕ} → Least passed (ux ∷ uy ∷ uz ∷ []) 0 on-x → Least passed (ux ∷ uy ∷ uz ∷ []) 1 on-y → Least passed (ux ∷ uy ∷ uz ∷ []) 2 on-z → nx ≡ max ux (on-x .second) → ny ≡ max uy (on-y .second) → nz ≡ max uz (on-z .second) → Limits passed (ux ∷ uy ∷ uz ∷ []) (nx ∷ ny ∷ nz ∷ [])
-least-limits {passed} ux uy uz {on-x} {on-y} {on-z} {nx} {ny} {nz} hx hy hz ex ey ez =
+two-least-limits : {passed : List (List ℕ)} (ux uy uz : ℕ) {on-x on-y on-z : Two} {nx ny nz : ℕ} → TwoLeast passed (ux ∷ uy ∷ uz ∷ []) 0 on-x → TwoLeast passed (ux ∷ uy ∷ uz ∷ []) 1 on-y → TwoLeast passed (ux ∷ uy ∷ uz ∷ []) 2 on-z → nx ≡ max ux (on-x .second) → ny ≡ max uy (on-y .second) → nz ≡ max uz (on-z .second) → Limits passed (ux ∷ uy ∷ uz ∷ []) (nx ∷ ny ∷ nz ∷ [])
+two-least-limits {passed} ux uy uz {on-x} {on-y} {on-z} {nx} {ny} {nz} hx hy hz ex ey ez =
     record {
       above = dominates-three ux uy uz nx ny nz (omega arith) (omega arith) (omega arith);
       twice = twice;
     }
   where
-    on : (a u n : ℕ) (two : Two) → Least passed (ux ∷ uy ∷ uz ∷ []) a two → n ≡ max u (two .second) → n < 1048576 → 2 ≤ cover passed (set (ux ∷ uy ∷ uz ∷ []) a n)
+    on : (a u n : ℕ) (two : Two) → TwoLeast passed (ux ∷ uy ∷ uz ∷ []) a two → n ≡ max u (two .second) → n < 1048576 → 2 ≤ cover passed (set (ux ∷ uy ∷ uz ∷ []) a n)
     on a u n two h e l =
         let there : 2 ≤ cover passed (set (ux ∷ uy ∷ uz ∷ []) a (two .second)) = h .more (omega arith) in
         omega (arith, raised-cover passed (ux ∷ uy ∷ uz ∷ []) a (two .second) n (omega arith))
@@ -138,8 +137,8 @@ least-limits {passed} ux uy uz {on-x} {on-y} {on-z} {nx} {ny} {nz} hx hy hz ex e
 later : (passed : List (List ℕ)) (p c : List ℕ) → cover passed c ≤ cover (passed ++ (p ∷ [])) c
 later passed p c = omega (arith, cover-append passed (p ∷ []) c)
 
-least-later : {passed : List (List ℕ)} {u : List ℕ} {a : ℕ} {two : Two} (p : List ℕ) → Least passed u a two → Least (passed ++ (p ∷ [])) u a two
-least-later {passed} {u} {a} {two} p h =
+two-least-later : {passed : List (List ℕ)} {u : List ℕ} {a : ℕ} {two : Two} (p : List ℕ) → TwoLeast passed u a two → TwoLeast (passed ++ (p ∷ [])) u a two
+two-least-later {passed} {u} {a} {two} p h =
     record {
       one = λ l. omega (arith, h .one l, later passed p (set u a (two .least)));
       more = λ l. omega (arith, h .more l, later passed p (set u a (two .second)));
@@ -154,26 +153,26 @@ limits-later {passed} {u} {limit} more h =
 
 -- The pass over the points.
 pub record Bounding (xs ys zs : List ℕ) (ux uy uz : ℕ) (on-x on-y on-z : Two) (limit : List ℕ) (i : ℕ) : Type 0 where
-  pub alike : Alike xs ys zs
+  pub same-length : SameLength xs ys zs
   pub within : i ≤ length xs
-  pub x : Least (take i (points xs ys zs)) (ux ∷ uy ∷ uz ∷ []) 0 on-x
-  pub y : Least (take i (points xs ys zs)) (ux ∷ uy ∷ uz ∷ []) 1 on-y
-  pub z : Least (take i (points xs ys zs)) (ux ∷ uy ∷ uz ∷ []) 2 on-z
-  pub limits : Limits (take i (points xs ys zs)) (ux ∷ uy ∷ uz ∷ []) limit
+  pub x : TwoLeast (take i (zip-points xs ys zs)) (ux ∷ uy ∷ uz ∷ []) 0 on-x
+  pub y : TwoLeast (take i (zip-points xs ys zs)) (ux ∷ uy ∷ uz ∷ []) 1 on-y
+  pub z : TwoLeast (take i (zip-points xs ys zs)) (ux ∷ uy ∷ uz ∷ []) 2 on-z
+  pub limits : Limits (take i (zip-points xs ys zs)) (ux ∷ uy ∷ uz ∷ []) limit
 
-pub bounding-none : {xs ys zs : List ℕ} (u : List ℕ) → Alike xs ys zs → Small u → Bounding xs ys zs (getD u 0 0) (getD u 1 0) (getD u 2 0) (record { least = 1048576; second = 1048576 }) (record { least = 1048576; second = 1048576 }) (record { least = 1048576; second = 1048576 }) (1048576 ∷ 1048576 ∷ 1048576 ∷ []) 0
+pub bounding-none : {xs ys zs : List ℕ} (u : List ℕ) → SameLength xs ys zs → Small u → Bounding xs ys zs (getD u 0 0) (getD u 1 0) (getD u 2 0) (record { least = 1048576; second = 1048576 }) (record { least = 1048576; second = 1048576 }) (record { least = 1048576; second = 1048576 }) (1048576 ∷ 1048576 ∷ 1048576 ∷ []) 0
 bounding-none u a s =
     record {
-      alike = a;
+      same-length = a;
       within = omega arith;
       x = none 0;
       y = none 1;
       z = none 2;
-      limits = least-limits (getD u 0 0) (getD u 1 0) (getD u 2 0) (none 0) (none 1) (none 2) (omega (arith, s 0)) (omega (arith, s 1)) (omega (arith, s 2));
+      limits = two-least-limits (getD u 0 0) (getD u 1 0) (getD u 2 0) (none 0) (none 1) (none 2) (omega (arith, s 0)) (omega (arith, s 1)) (omega (arith, s 2));
     }
   where
-    none : (axis : ℕ) → Least [] (getD u 0 0 ∷ getD u 1 0 ∷ getD u 2 0 ∷ []) axis (record { least = 1048576; second = 1048576 })
-    none axis = least-none [] (getD u 0 0 ∷ getD u 1 0 ∷ getD u 2 0 ∷ []) axis
+    none : (axis : ℕ) → TwoLeast [] (getD u 0 0 ∷ getD u 1 0 ∷ getD u 2 0 ∷ []) axis (record { least = 1048576; second = 1048576 })
+    none axis = two-least-none [] (getD u 0 0 ∷ getD u 1 0 ∷ getD u 2 0 ∷ []) axis
 
 module _ {xs ys zs : List ℕ} {ux uy uz : ℕ} {on-x on-y on-z : Two} {limit : List ℕ} {i : ℕ} (h : Bounding xs ys zs ux uy uz on-x on-y on-z limit i) where
   abbrev px : ℕ
@@ -188,78 +187,46 @@ module _ {xs ys zs : List ℕ} {ux uy uz : ℕ} {on-x on-y on-z : Two} {limit : 
   abbrev p : List ℕ
   p = px ∷ py ∷ pz ∷ []
 
-  many : length (points xs ys zs) ≡ length xs
-  many = points-length xs ys zs (h .alike .ys-many) (h .alike .zs-many)
+  many : length (zip-points xs ys zs) ≡ length xs
+  many = points-length xs ys zs (h .same-length .ys-many) (h .same-length .zs-many)
 
-  next : i < length xs → take (i + 1) (points xs ys zs) ≡ take i (points xs ys zs) ++ (p ∷ [])
+  next : i < length xs → take (i + 1) (zip-points xs ys zs) ≡ take i (zip-points xs ys zs) ++ (p ∷ [])
   next l =
-      rw (add-one i, take-suc (points xs ys zs) i [] (omega (arith, many)), points-at xs ys zs i (h .alike .ys-many) (h .alike .zs-many) l)
+      rw (add-one i, take-suc (zip-points xs ys zs) i [] (omega (arith, many)), points-at xs ys zs i (h .same-length .ys-many) (h .same-length .zs-many) l)
 
   -- A point may be passed over.
   pub bounding-skip : i < length xs → Bounding xs ys zs ux uy uz on-x on-y on-z limit (i + 1)
   bounding-skip l =
       record {
-        alike = h .alike;
+        same-length = h .same-length;
         within = omega arith;
-        x = rw (next l) (least-later p (h .x));
-        y = rw (next l) (least-later p (h .y));
-        z = rw (next l) (least-later p (h .z));
+        x = rw (next l) (two-least-later p (h .x));
+        y = rw (next l) (two-least-later p (h .y));
+        z = rw (next l) (two-least-later p (h .z));
         limits = rw (next l) (limits-later (p ∷ []) (h .limits));
       }
 
-  pub bounding-more : {ox oy oz nx ny nz : ℕ} {on-x′ on-y′ on-z′ : Two} → i < length xs → ox ≡ offer (both (leb py uy) (leb pz uz)) px → on-x′ ≡ twoWith on-x ox → oy ≡ offer (both (leb px ux) (leb pz uz)) py → on-y′ ≡ twoWith on-y oy → oz ≡ offer (both (leb px ux) (leb py uy)) pz → on-z′ ≡ twoWith on-z oz → nx ≡ max ux (on-x′ .second) → ny ≡ max uy (on-y′ .second) → nz ≡ max uz (on-z′ .second) → Bounding xs ys zs ux uy uz on-x′ on-y′ on-z′ (nx ∷ ny ∷ nz ∷ []) (i + 1)
+  pub bounding-more : {ox oy oz nx ny nz : ℕ} {on-x′ on-y′ on-z′ : Two} → i < length xs → ox ≡ offer (both (leb py uy) (leb pz uz)) px → on-x′ ≡ two-with on-x ox → oy ≡ offer (both (leb px ux) (leb pz uz)) py → on-y′ ≡ two-with on-y oy → oz ≡ offer (both (leb px ux) (leb py uy)) pz → on-z′ ≡ two-with on-z oz → nx ≡ max ux (on-x′ .second) → ny ≡ max uy (on-y′ .second) → nz ≡ max uz (on-z′ .second) → Bounding xs ys zs ux uy uz on-x′ on-y′ on-z′ (nx ∷ ny ∷ nz ∷ []) (i + 1)
   bounding-more {ox} {oy} {oz} {on-x′ = on-x′} {on-y′} {on-z′} l fx ex fy ey fz ez gx gy gz =
       record {
-        alike = h .alike;
+        same-length = h .same-length;
         within = omega arith;
         x = x′;
         y = y′;
         z = z′;
-        limits = least-limits ux uy uz x′ y′ z′ gx gy gz;
+        limits = two-least-limits ux uy uz x′ y′ z′ gx gy gz;
       }
     where
-      x′ : Least (take (i + 1) (points xs ys zs)) (ux ∷ uy ∷ uz ∷ []) 0 on-x′
-      x′ = rw (next l, ex) (least-more p ox (h .x) (offer-x px py pz ux uy uz fx))
+      x′ : TwoLeast (take (i + 1) (zip-points xs ys zs)) (ux ∷ uy ∷ uz ∷ []) 0 on-x′
+      x′ = rw (next l, ex) (two-least-more p ox (h .x) (offer-x px py pz ux uy uz fx))
 
-      y′ : Least (take (i + 1) (points xs ys zs)) (ux ∷ uy ∷ uz ∷ []) 1 on-y′
-      y′ = rw (next l, ey) (least-more p oy (h .y) (offer-y px py pz ux uy uz fy))
+      y′ : TwoLeast (take (i + 1) (zip-points xs ys zs)) (ux ∷ uy ∷ uz ∷ []) 1 on-y′
+      y′ = rw (next l, ey) (two-least-more p oy (h .y) (offer-y px py pz ux uy uz fy))
 
-      z′ : Least (take (i + 1) (points xs ys zs)) (ux ∷ uy ∷ uz ∷ []) 2 on-z′
-      z′ = rw (next l, ez) (least-more p oz (h .z) (offer-z px py pz ux uy uz fz))
+      z′ : TwoLeast (take (i + 1) (zip-points xs ys zs)) (ux ∷ uy ∷ uz ∷ []) 2 on-z′
+      z′ = rw (next l, ez) (two-least-more p oz (h .z) (offer-z px py pz ux uy uz fz))
 
 -- The limits of the first points are limits of all.
-pub bounding-end : {xs ys zs : List ℕ} {on-x on-y on-z : Two} {limit : List ℕ} {i : ℕ} (u : List ℕ) → length u ≡ 3 → Bounding xs ys zs (getD u 0 0) (getD u 1 0) (getD u 2 0) on-x on-y on-z limit i → Limits (points xs ys zs) u limit
+pub bounding-end : {xs ys zs : List ℕ} {on-x on-y on-z : Two} {limit : List ℕ} {i : ℕ} (u : List ℕ) → length u ≡ 3 → Bounding xs ys zs (getD u 0 0) (getD u 1 0) (getD u 2 0) on-x on-y on-z limit i → Limits (zip-points xs ys zs) u limit
 bounding-end {xs} {ys} {zs} {i = i} u e h =
-    rw (three u e, take-append-drop i (points xs ys zs)) at (limits-later (drop i (points xs ys zs)) (h .limits))
-
--- Adding up the tests of the three axes.
-pub test-few : (t : Bool) {n : ℕ} → n ≡ holds t → n ≤ 1
-test-few t e = omega (arith, holds-le-one t)
-
-pub axes-few : (x y z : ℕ) (p : List ℕ) {n : ℕ} → n ≡ axesWithin x y z p → n ≤ 3
-unfolding axesWithin
-axes-few x y z p e =
-    omega (arith, holds-le-one (leb x (getD p 0 0)), holds-le-one (leb y (getD p 1 0)), holds-le-one (leb z (getD p 2 0)))
-
-all-three : (a b c : Bool) → eqb (holds a + holds b + holds c) 3 ≡ both a (both b (both c true))
-unfolding holds both
-all-three true true true = refl
-all-three true true false = refl
-all-three true false true = refl
-all-three true false false = refl
-all-three false true true = refl
-all-three false true false = refl
-all-three false false true = refl
-all-three false false false = refl
-
-axes-dominates : (x y z : ℕ) (p : List ℕ) → length p ≡ 3 → eqb (axesWithin x y z p) 3 ≡ dominates (x ∷ y ∷ z ∷ []) p
-unfolding axesWithin dominates
-axes-dominates x y z p e =
-    all-three (leb x (getD p 0 0)) (leb y (getD p 1 0)) (leb z (getD p 2 0)) ∙ ap (dominates (x ∷ y ∷ z ∷ [])) (three p e)
-
-module _ (x y z : ℕ) (p : List ℕ) (e : length p ≡ 3) {n : ℕ} (f : n ≡ axesWithin x y z p) where
-  pub axes-all : n ≡ 3 → dominates (x ∷ y ∷ z ∷ []) p ≡ true
-  axes-all g = sym (axes-dominates x y z p e) ∙ eq-eqb (axesWithin x y z p) 3 (sym f ∙ g)
-
-  pub axes-not : (n ≡ 3 → ⊥) → dominates (x ∷ y ∷ z ∷ []) p ≡ false
-  axes-not g = sym (axes-dominates x y z p e) ∙ ne-eqb (axesWithin x y z p) 3 (λ q. g (f ∙ q))
+    rw (three u e, take-append-drop i (zip-points xs ys zs)) at (limits-later (drop i (zip-points xs ys zs)) (h .limits))

@@ -1,29 +1,13 @@
 -- The flags of the line: what they say of the entries before, and when they stay right.
-use Prim.Native.Nat.{ℕ, zero, suc, _+_, _≤_, _<_}
-use mathlib.Core.Path.{_≡_, refl, sym, ap, _∙_}
+use Prim.Native.Nat.{ℕ, zero, suc, _≤_, _<_}
+use mathlib.Core.Path.{_≡_, sym, _∙_}
 use mathlib.Core.List.{List, _∷_, _++_, append-nil, []}
-use native.Mathlib.Nat.{add-zero}
 use native.Mathlib.Decide.{decLe}
 use native.Mathlib.Omega.{arith}
 use lib.ListN.{length, take, getD}
 use lib.Seq.{append-snoc}
-use Rattle.hypervolume.specs.Cells.{holds, dominates}
-use Rattle.sweep.specs.Line.{tally, spot, xOf, yOf, over, low, FlagRight, Flagged}
-use Rattle.sweep.proofs.Tallies.{tally-append}
-use Rattle.sweep.proofs.Columns.{low-more}
-
-pub over-append : (s t : List ℕ) (c : List ℕ) → over (s ++ t) c ≡ over s c + over t c
-unfolding over
-over-append s t c = tally-append (λ w. dominates (spot w) c) s t
-
-pub over-cons : (w : ℕ) (line c : List ℕ) → over (w ∷ line) c ≡ holds (dominates (spot w) c) + over line c
-unfolding over tally
-over-cons w line c = refl
-
-pub over-more : (line : List ℕ) (w : ℕ) (c : List ℕ) → over (line ++ (w ∷ [])) c ≡ over line c + holds (dominates (spot w) c)
-unfolding over tally
-over-more line w c =
-    over-append line (w ∷ []) c ∙ ap (λ k. over line c + k) (add-zero (holds (dominates (spot w) c)))
+use Rattle.sweep.specs.Line.{x-of, y-of, over, low, FlagRight, Flagged}
+use Rattle.sweep.proofs.Tally.{low-more, over-more}
 
 -- Entries that tell a flag no more than others do: where those leave the rows below y free, so do these, and these dominate
 -- every cell that those dominate.
@@ -45,7 +29,7 @@ fewer-more {before} {other} h w =
     go i j l (no m) = omega (arith, over-more other w (i ∷ j ∷ []), over-more before w (i ∷ j ∷ []))
 
 -- two entries of one point tell the same
-pub fewer-same : (before : List ℕ) (v w : ℕ) → xOf v ≡ xOf w → yOf v ≡ yOf w → Fewer (before ++ (w ∷ [])) (before ++ (v ∷ []))
+pub fewer-same : (before : List ℕ) (v w : ℕ) → x-of v ≡ x-of w → y-of v ≡ y-of w → Fewer (before ++ (w ∷ [])) (before ++ (v ∷ []))
 fewer-same before v w e f =
     record {
       free = λ y g j l. low-more before v j ∙ rw f (sym (low-more before w j) ∙ g j l);
@@ -56,7 +40,7 @@ fewer-same before v w e f =
     }
 
 pub flag-fewer : {before other : List ℕ} → Fewer before other → {w : ℕ} → FlagRight before w → FlagRight other w
-flag-fewer h {w} f = record { clear = λ e. h .free (yOf w) (f .clear e); set = λ e i j d. h .some i j (f .set e i j d) }
+flag-fewer h {w} f = record { clear = λ e. h .free (y-of w) (f .clear e); set = λ e i j d. h .some i j (f .set e i j d) }
 
 pub flagged-fewer : (before other line : List ℕ) → Fewer before other → Flagged before line → Flagged other line
 unfolding Flagged

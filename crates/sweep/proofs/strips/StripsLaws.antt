@@ -1,16 +1,15 @@
--- The pass over the line. The columns between neighbouring x's are alike, so each strip of them is settled by one
--- product; the invariant counts the columns passed.
+-- `strips`, the pass over the line: the columns between neighbouring x's are alike; the invariant counts the columns passed.
 use Prim.Native.Nat.{ℕ, zero, suc, _+_, _-_, _*_, _^_, _≤_, _<_, max, min}
 use mathlib.Core.Path.{_≡_, refl, sym, ap, _∙_}
 use mathlib.Core.Bool.{Bool, true, false}
 use mathlib.Core.List.{List, _∷_, []}
-use native.Mathlib.Nat.{add-zero, zero-mul, mul-zero, sub-zero, mul-le-mul, mul-le-mul-left, mul-add}
+use native.Mathlib.Nat.{add-zero, zero-mul, mul-zero, mul-le-mul-left, mul-add}
 use native.Mathlib.Decide.{decLe, ℕ-discrete}
 use native.Mathlib.Numerals.{add-one}
 use native.Mathlib.Omega.{arith}
 use lib.Dec.{leb, eqb}
-use lib.ListN.{length, take, getD, set, length-set}
-use lib.Seq.{set-getD, getD-set-same, getD-set-other, take-suc}
+use lib.ListN.{length, take, getD, length-set}
+use lib.Seq.{getD-set-same, getD-set-other, take-suc}
 use borrow.Author.Tests.{le-leb, lt-leb, ne-eqb}
 use borrow.Author.Count.{below-more}
 use Rattle.slices.specs.Choices.{both}
@@ -19,86 +18,42 @@ use Rattle.hypervolume.proofs.Sums.{sum-ext, sum-le, sum-const, sum-none, sum-s
 use Rattle.hypervolume.proofs.Tests.{Compared, below, compared, holds-le-one}
 use Rattle.slices.proofs.Choices.{both-comm}
 use Rattle.sweep.specs.declared.column.Column.{Column}
-use Rattle.sweep.specs.Line.{xOf, yOf, indexOf, low, lowBy, over, overBy, gainOver, sharedWith, Rising}
-use Rattle.sweep.specs.Strips.{columnWith, Standing, alone, shared, Settling, Settled, Crossing, Crossed}
-use Rattle.sweep.proofs.Orders.{rising-pair}
-use Rattle.sweep.proofs.Tallies.{column-least, column-tally}
-use Rattle.sweep.proofs.Columns.{standing-more, columnWith-owned, gainRow, sharedRow, gain-rows, shared-rows, shared-rows-other}
-
--- Products of two and of three numbers up to 1,048,576 fit a word.
-pub two-fit : {a b : ℕ} → a ≤ 1048576 → b ≤ 1048576 → a * b ≤ 1099511627776
-two-fit p q = mul-le-mul p q
-
-pub three-fit : {a b c : ℕ} → a ≤ 1048576 → b ≤ 1048576 → c ≤ 1048576 → a * (b * c) ≤ 1152921504606846976
-three-fit p q r = mul-le-mul p (two-fit q r)
-
--- A strip of no width.
-pub settled-none : (column : Column) (from to py height : ℕ) (out : List ℕ) → to ≤ from → Settled column from to py height out out 0
-settled-none column from to py height out l =
-    let none : to - from ≡ 0 = omega arith in
-    record {
-      gained = sym (rw none (zero-mul (alone column py)));
-      fallen =
-          sym
-          (rw (none, zero-mul (shared column py), mul-zero height, sub-zero (getD out (column .owner) 0))
-          (set-getD out (column .owner) 0));
-    }
-
--- A strip of some width: the products fit, the owner's contribution is large enough, and what is left.
-module _ {column : Column} {from to py height : ℕ} {out : List ℕ} (h : Settling column from to py height out) {s : ℕ} (e : s ≡ shared column py) where
-  depth-small : s ≤ 1048576
-  depth-small = rw e (omega arith)
-
-  width-small : to - from ≤ 1048576
-  width-small = omega arith
-
-  pub settling-area : (to - from) * s < 2 ^ 64
-  settling-area = omega (arith, two-fit width-small depth-small)
-
-  pub settling-volume : height * ((to - from) * s) < 2 ^ 64
-  settling-volume = omega (arith, three-fit (h .height-small) width-small depth-small)
-
-  pub settling-enough : height * ((to - from) * s) ≤ getD out (column .owner) 0
-  settling-enough = rw e (h .enough)
-
-  module _ {a : ℕ} (f : a ≡ alone column py) where
-    pub settling-gain : (to - from) * a < 2 ^ 64
-    settling-gain =
-        let small : a ≤ 1048576 = rw f (omega arith) in
-        omega (arith, two-fit width-small small)
-
-    pub settled-some : Settled column from to py height out (set out (column .owner) (getD out (column .owner) 0 - height * ((to - from) * s))) ((to - from) * a)
-    settled-some = record { gained = rw f; fallen = rw e }
+use Rattle.sweep.specs.Line.{x-of, y-of, index-of, low, low-by, over, over-by, gain-over, shared-with, Rising}
+use Rattle.sweep.specs.Strips.{column-with, ColumnState, alone, shared, Settling, Settled, Crossing, Crossed}
+use Rattle.sweep.proofs.line.Rising.{rising-pair}
+use Rattle.sweep.proofs.Tally.{column-least, column-tally}
+use Rattle.sweep.proofs.column.WithLaws.{state-more, column-with-owned}
+use Rattle.sweep.proofs.strips.SettleLaws.{gain-row, shared-row, gain-row-sum, shared-row-sum, shared-row-sum-other, two-fit}
 
 -- Column i of the layer: how many of its cells p dominates and no entry does, and how many p dominates with the point
--- of index t alone. Over all columns these are gainOver and sharedWith.
-unfoldable pub gainIn : List ℕ → ℕ → ℕ → ℕ → ℕ → ℕ
-gainIn line px py ry i =
+-- of index t alone. Over all columns these are gain-over and shared-with.
+unfoldable pub gain-column : List ℕ → ℕ → ℕ → ℕ → ℕ → ℕ
+gain-column line px py ry i =
     sum ry (λ j. holds (both (dominates (px ∷ py ∷ []) (i ∷ j ∷ [])) (eqb (over line (i ∷ j ∷ [])) 0)))
 
-unfoldable pub sharedIn : ℕ → List ℕ → ℕ → ℕ → ℕ → ℕ → ℕ
-sharedIn t line px py ry i =
-    sum ry (λ j. holds (both (dominates (px ∷ py ∷ []) (i ∷ j ∷ [])) (both (eqb (over line (i ∷ j ∷ [])) 1) (leb 1 (overBy t line (i ∷ j ∷ []))))))
+unfoldable pub shared-column : ℕ → List ℕ → ℕ → ℕ → ℕ → ℕ → ℕ
+shared-column t line px py ry i =
+    sum ry (λ j. holds (both (dominates (px ∷ py ∷ []) (i ∷ j ∷ [])) (both (eqb (over line (i ∷ j ∷ [])) 1) (leb 1 (over-by t line (i ∷ j ∷ []))))))
 
 -- What the pass has after k entries, with the columns before `at` settled.
 pub record Swept (line : List ℕ) (px py rx ry height : ℕ) (out : List ℕ) (k at area : ℕ) (column : Column) (left : List ℕ) : Type 0 where
   pub from : min px rx ≤ at
   pub within : at ≤ rx
-  pub passed : (a : ℕ) → a < k → min (xOf (getD line a 0)) rx ≤ at
-  pub standing : Standing ry (take k line) column
+  pub passed : (a : ℕ) → a < k → min (x-of (getD line a 0)) rx ≤ at
+  pub state : ColumnState ry (take k line) column
   pub owned : column .owner < length out
   pub alike : length left ≡ length out
-  pub gained : area ≡ sum at (gainIn line px py ry)
-  pub fallen : (j : ℕ) → getD left j 0 + height * sum at (sharedIn j line px py ry) ≡ getD out j 0
+  pub gained : area ≡ sum at (gain-column line px py ry)
+  pub fallen : (j : ℕ) → getD left j 0 + height * sum at (shared-column j line px py ry) ≡ getD out j 0
 
 -- columns before p
-gainIn-before : (line : List ℕ) (px py ry i : ℕ) → i < px → gainIn line px py ry i ≡ 0
-unfolding gainIn dominates both holds
-gainIn-before line px py ry i l = sum-none ry _ (λ j m. rw (lt-leb px i l))
+gain-column-before : (line : List ℕ) (px py ry i : ℕ) → i < px → gain-column line px py ry i ≡ 0
+unfolding gain-column dominates both holds
+gain-column-before line px py ry i l = sum-none ry _ (λ j m. rw (lt-leb px i l))
 
-sharedIn-before : (t : ℕ) (line : List ℕ) (px py ry i : ℕ) → i < px → sharedIn t line px py ry i ≡ 0
-unfolding sharedIn dominates both holds
-sharedIn-before t line px py ry i l = sum-none ry _ (λ j m. rw (lt-leb px i l))
+shared-column-before : (t : ℕ) (line : List ℕ) (px py ry i : ℕ) → i < px → shared-column t line px py ry i ≡ 0
+unfolding shared-column dominates both holds
+shared-column-before t line px py ry i l = sum-none ry _ (λ j m. rw (lt-leb px i l))
 
 pub swept-none : {line : List ℕ} {start : ℕ} {first : Column} {px py rx ry height : ℕ} {out : List ℕ} → Crossing line start first px py rx ry height out → {at : ℕ} → at ≡ min px rx → Swept line px py rx ry height out start at 0 first out
 swept-none {line} {start} {first} {px} {py} {rx} {ry} {height} {out} c {at} e =
@@ -106,19 +61,19 @@ swept-none {line} {start} {first} {px} {py} {rx} {ry} {height} {out} c {at} e =
       from = omega arith;
       within = omega arith;
       passed = λ a m. omega (arith, c .reached a m);
-      standing = c .standing;
+      state = c .state;
       owned = c .owned;
       alike = refl;
-      gained = sym (sum-none at (gainIn line px py ry) (λ i m. gainIn-before line px py ry i (omega arith)));
+      gained = sym (sum-none at (gain-column line px py ry) (λ i m. gain-column-before line px py ry i (omega arith)));
       fallen = λ j.
-          rw (sum-none at (sharedIn j line px py ry) (λ i m. sharedIn-before j line px py ry i (omega arith)), mul-zero height)
+          rw (sum-none at (shared-column j line px py ry) (λ i m. shared-column-before j line px py ry i (omega arith)), mul-zero height)
           (add-zero (getD out j 0));
     }
 
-gainIn-le : (line : List ℕ) (px py ry i : ℕ) → gainIn line px py ry i ≤ ry
-unfolding gainIn
-gainIn-le line px py ry i =
-    let rows : gainIn line px py ry i ≤ sum ry (λ j. 1) =
+gain-column-le : (line : List ℕ) (px py ry i : ℕ) → gain-column line px py ry i ≤ ry
+unfolding gain-column
+gain-column-le line px py ry i =
+    let rows : gain-column line px py ry i ≤ sum ry (λ j. 1) =
     sum-le ry _ (λ j. 1) (λ j l. holds-le-one (both (dominates (px ∷ py ∷ []) (i ∷ j ∷ [])) (eqb (over line (i ∷ j ∷ [])) 0))) in
     omega (arith, sum-const ry 1)
 
@@ -145,21 +100,21 @@ sum-longer f a (suc b) l = go (decLe a b) (sum-longer f a b)
     go (no p) shorter = let same′ : a ≡ suc b = omega arith in rw same′ (omega arith)
 
 -- Up to `to` the columns are alike, where no entry ahead begins before it.
-module _ {line : List ℕ} {px py rx ry height : ℕ} {out : List ℕ} {k at area : ℕ} {column : Column} {left : List ℕ} (h : Swept line px py rx ry height out k at area column left) (to : ℕ) (last : to ≤ rx) (ahead : (a : ℕ) → k ≤ a → a < length line → to ≤ xOf (getD line a 0)) where
+module _ {line : List ℕ} {px py rx ry height : ℕ} {out : List ℕ} {k at area : ℕ} {column : Column} {left : List ℕ} (h : Swept line px py rx ry height out k at area column left) (to : ℕ) (last : to ≤ rx) (ahead : (a : ℕ) → k ≤ a → a < length line → to ≤ x-of (getD line a 0)) where
   module _ (i : ℕ) (l : at ≤ i) (m : i < to) where
-    reach : (a : ℕ) → a < k → a < length line → xOf (getD line a 0) ≤ i
+    reach : (a : ℕ) → a < k → a < length line → x-of (getD line a 0) ≤ i
     reach a n o = omega (arith, h .passed a n, h .within)
 
-    miss : (a : ℕ) → k ≤ a → a < length line → i < xOf (getD line a 0)
+    miss : (a : ℕ) → k ≤ a → a < length line → i < x-of (getD line a 0)
     miss a n o = omega (arith, ahead a n o)
 
     over-here : (j : ℕ) → over line (i ∷ j ∷ []) ≡ low (take k line) j
     unfolding over low both
     over-here j = column-tally (λ w. true) line k i j reach miss
 
-    overBy-here : (t j : ℕ) → overBy t line (i ∷ j ∷ []) ≡ lowBy t (take k line) j
-    unfolding overBy lowBy
-    overBy-here t j = column-tally (λ w. eqb (indexOf w) t) line k i j reach miss
+    over-by-here : (t j : ℕ) → over-by t line (i ∷ j ∷ []) ≡ low-by t (take k line) j
+    unfolding over-by low-by
+    over-by-here t j = column-tally (λ w. eqb (index-of w) t) line k i j reach miss
 
     right-of : px ≤ i
     right-of = omega (arith, h .from, h .within)
@@ -168,41 +123,41 @@ module _ {line : List ℕ} {px py rx ry height : ℕ} {out : List ℕ} {k at are
     unfolding dominates both
     dominates-here j = rw (le-leb px i right-of) (both-comm (leb py j) true)
 
-    gainIn-here : gainIn line px py ry i ≡ alone column py
-    unfolding gainIn gainRow
-    gainIn-here =
-        sum-ext ry _ (gainRow (take k line) py) (λ j n. rw (dominates-here j, over-here j))
-        ∙ gain-rows (h .standing) py
+    gain-column-here : gain-column line px py ry i ≡ alone column py
+    unfolding gain-column gain-row
+    gain-column-here =
+        sum-ext ry _ (gain-row (take k line) py) (λ j n. rw (dominates-here j, over-here j))
+        ∙ gain-row-sum (h .state) py
 
-    sharedIn-rows : (t : ℕ) → sharedIn t line px py ry i ≡ sum ry (sharedRow t (take k line) py)
-    unfolding sharedIn sharedRow
-    sharedIn-rows t =
-        sum-ext ry _ (sharedRow t (take k line) py) (λ j n. rw (dominates-here j, over-here j, overBy-here t j))
+    shared-column-rows : (t : ℕ) → shared-column t line px py ry i ≡ sum ry (shared-row t (take k line) py)
+    unfolding shared-column shared-row
+    shared-column-rows t =
+        sum-ext ry _ (shared-row t (take k line) py) (λ j n. rw (dominates-here j, over-here j, over-by-here t j))
 
-  pub strip-gain : sum (max at to) (gainIn line px py ry) ≡ area + (to - at) * alone column py
-  strip-gain = sum-strip (gainIn line px py ry) (alone column py) at to gainIn-here ∙ rw (← (h .gained))
+  pub strip-gain : sum (max at to) (gain-column line px py ry) ≡ area + (to - at) * alone column py
+  strip-gain = sum-strip (gain-column line px py ry) (alone column py) at to gain-column-here ∙ rw (← (h .gained))
 
-  pub strip-owner : sum (max at to) (sharedIn (column .owner) line px py ry) ≡ sum at (sharedIn (column .owner) line px py ry) + (to - at) * shared column py
+  pub strip-owner : sum (max at to) (shared-column (column .owner) line px py ry) ≡ sum at (shared-column (column .owner) line px py ry) + (to - at) * shared column py
   strip-owner =
-      sum-strip (sharedIn (column .owner) line px py ry) (shared column py) at to
-      (λ i l m. sharedIn-rows i l m (column .owner) ∙ shared-rows (h .standing) py)
+      sum-strip (shared-column (column .owner) line px py ry) (shared column py) at to
+      (λ i l m. shared-column-rows i l m (column .owner) ∙ shared-row-sum (h .state) py)
 
-  pub strip-other : (t : ℕ) → (t ≡ column .owner → ⊥) → sum (max at to) (sharedIn t line px py ry) ≡ sum at (sharedIn t line px py ry)
+  pub strip-other : (t : ℕ) → (t ≡ column .owner → ⊥) → sum (max at to) (shared-column t line px py ry) ≡ sum at (shared-column t line px py ry)
   strip-other t n =
-      sum-strip (sharedIn t line px py ry) 0 at to (λ i l m. sharedIn-rows i l m t ∙ shared-rows-other (h .standing) py t n)
-      ∙ rw (mul-zero (to - at)) (add-zero (sum at (sharedIn t line px py ry)))
+      sum-strip (shared-column t line px py ry) 0 at to (λ i l m. shared-column-rows i l m t ∙ shared-row-sum-other (h .state) py t n)
+      ∙ rw (mul-zero (to - at)) (add-zero (sum at (shared-column t line px py ry)))
 
   -- What falls here is part of what falls over all columns, so the owner's contribution is large enough.
   pub swept-settling : {start : ℕ} {first : Column} → Crossing line start first px py rx ry height out → Settling column at to py height left
-  unfolding sharedWith count cells sharedIn
+  unfolding shared-with count cells shared-column
   swept-settling c =
       let o = column .owner in
-      let all : height * sum rx (sharedIn o line px py ry) ≤ getD out o 0 = c .enough o in
-      let part : height * sum (max at to) (sharedIn o line px py ry) ≤ height * sum rx (sharedIn o line px py ry) =
-      mul-le-mul-left height (sum-longer (sharedIn o line px py ry) (max at to) rx (omega arith)) in
-      let both′ : height * sum (max at to) (sharedIn o line px py ry) ≡ height * sum at (sharedIn o line px py ry) + height * ((to - at) * shared column py) =
-      ap (λ s. height * s) strip-owner ∙ mul-add height (sum at (sharedIn o line px py ry)) ((to - at) * shared column py) in
-      let standing : Standing ry (take k line) column = h .standing in
+      let all : height * sum rx (shared-column o line px py ry) ≤ getD out o 0 = c .enough o in
+      let part : height * sum (max at to) (shared-column o line px py ry) ≤ height * sum rx (shared-column o line px py ry) =
+      mul-le-mul-left height (sum-longer (shared-column o line px py ry) (max at to) rx (omega arith)) in
+      let both′ : height * sum (max at to) (shared-column o line px py ry) ≡ height * sum at (shared-column o line px py ry) + height * ((to - at) * shared column py) =
+      ap (λ s. height * s) strip-owner ∙ mul-add height (sum at (shared-column o line px py ry)) ((to - at) * shared column py) in
+      let state : ColumnState ry (take k line) column = h .state in
       record {
         owned = omega arith;
         enough = omega (arith, h .fallen o);
@@ -213,23 +168,23 @@ module _ {line : List ℕ} {px py rx ry height : ℕ} {out : List ℕ} {k at are
       }
 
   module _ {left′ : List ℕ} {gained : ℕ} (s : Settled column at to py height left left′ gained) where
-    pub swept-area : area + gained ≡ sum (max at to) (gainIn line px py ry)
+    pub swept-area : area + gained ≡ sum (max at to) (gain-column line px py ry)
     swept-area = rw (s .gained) (sym strip-gain)
 
-    fallen-owner : {start : ℕ} {first : Column} → Crossing line start first px py rx ry height out → getD left′ (column .owner) 0 + height * sum (max at to) (sharedIn (column .owner) line px py ry) ≡ getD out (column .owner) 0
+    fallen-owner : {start : ℕ} {first : Column} → Crossing line start first px py rx ry height out → getD left′ (column .owner) 0 + height * sum (max at to) (shared-column (column .owner) line px py ry) ≡ getD out (column .owner) 0
     fallen-owner c =
         let o = column .owner in
-        let before : getD left o 0 + height * sum at (sharedIn o line px py ry) ≡ getD out o 0 = h .fallen o in
+        let before : getD left o 0 + height * sum at (shared-column o line px py ry) ≡ getD out o 0 = h .fallen o in
         let enough : height * ((to - at) * shared column py) ≤ getD left o 0 = swept-settling c .enough in
         let now : getD left′ o 0 ≡ getD left o 0 - height * ((to - at) * shared column py) =
         ap (λ l. getD l o 0) (s .fallen)
         ∙ getD-set-same left o (getD left o 0 - height * ((to - at) * shared column py)) 0 (swept-settling c .owned) in
-        let both′ : height * sum (max at to) (sharedIn o line px py ry) ≡ height * sum at (sharedIn o line px py ry) + height * ((to - at) * shared column py) =
+        let both′ : height * sum (max at to) (shared-column o line px py ry) ≡ height * sum at (shared-column o line px py ry) + height * ((to - at) * shared column py) =
         ap (λ s. height * s) strip-owner
-        ∙ mul-add height (sum at (sharedIn o line px py ry)) ((to - at) * shared column py) in
+        ∙ mul-add height (sum at (shared-column o line px py ry)) ((to - at) * shared column py) in
         omega arith
 
-    fallen-other : (t : ℕ) → (t ≡ column .owner → ⊥) → getD left′ t 0 + height * sum (max at to) (sharedIn t line px py ry) ≡ getD out t 0
+    fallen-other : (t : ℕ) → (t ≡ column .owner → ⊥) → getD left′ t 0 + height * sum (max at to) (shared-column t line px py ry) ≡ getD out t 0
     fallen-other t n =
         rw (s .fallen, strip-other t n, getD-set-other left (column .owner) t (getD left (column .owner) 0 - height * ((to - at) * shared column py)) 0 n)
         (h .fallen t)
@@ -240,7 +195,7 @@ module _ {line : List ℕ} {px py rx ry height : ℕ} {out : List ℕ} {k at are
           from = omega (arith, h .from);
           within = omega (arith, h .within);
           passed = λ a l. omega (arith, h .passed a l);
-          standing = h .standing;
+          state = h .state;
           owned = h .owned;
           alike =
               ap length (s .fallen)
@@ -250,19 +205,19 @@ module _ {line : List ℕ} {px py rx ry height : ℕ} {out : List ℕ} {k at are
           fallen = λ t. go t (ℕ-discrete t (column .owner));
         }
       where
-        go : (t : ℕ) → Dec (t ≡ column .owner) → getD left′ t 0 + height * sum (max at to) (sharedIn t line px py ry) ≡ getD out t 0
+        go : (t : ℕ) → Dec (t ≡ column .owner) → getD left′ t 0 + height * sum (max at to) (shared-column t line px py ry) ≡ getD out t 0
         go t (yes e) = rw e (fallen-owner c)
         go t (no n) = fallen-other t n
 
 -- One entry passed.
-swept-passed : {line : List ℕ} {px py rx ry height : ℕ} {out : List ℕ} {k at area : ℕ} {column : Column} {left : List ℕ} {start : ℕ} {first : Column} → Crossing line start first px py rx ry height out → Swept line px py rx ry height out k at area column left → k < length line → min (xOf (getD line k 0)) rx ≤ at → Swept line px py rx ry height out (k + 1) at area (columnWith column (yOf (getD line k 0)) (indexOf (getD line k 0))) left
+swept-passed : {line : List ℕ} {px py rx ry height : ℕ} {out : List ℕ} {k at area : ℕ} {column : Column} {left : List ℕ} {start : ℕ} {first : Column} → Crossing line start first px py rx ry height out → Swept line px py rx ry height out k at area column left → k < length line → min (x-of (getD line k 0)) rx ≤ at → Swept line px py rx ry height out (k + 1) at area (column-with column (y-of (getD line k 0)) (index-of (getD line k 0))) left
 swept-passed {line} {px} {py} {rx} {ry} {height} {out} {k} {at} {area} {column} {left} {start} {first} c h l m =
     record {
       from = h .from;
       within = h .within;
-      passed = below-more (λ a. min (xOf (getD line a 0)) rx ≤ at) k (h .passed) m;
-      standing = rw (add-one k, take-suc line k 0 l) (standing-more (h .standing) (getD line k 0));
-      owned = columnWith-owned column (yOf (getD line k 0)) (indexOf (getD line k 0)) (length out) (h .owned) (c .indices k);
+      passed = below-more (λ a. min (x-of (getD line a 0)) rx ≤ at) k (h .passed) m;
+      state = rw (add-one k, take-suc line k 0 l) (state-more (h .state) (getD line k 0));
+      owned = column-with-owned column (y-of (getD line k 0)) (index-of (getD line k 0)) (length out) (h .owned) (c .indices k);
       alike = h .alike;
       gained = h .gained;
       fallen = h .fallen;
@@ -271,13 +226,13 @@ swept-passed {line} {px} {py} {rx} {ry} {height} {out} {k} {at} {area} {column} 
 -- A column where two entries passed are at most py on y: p gains nothing there and shares nothing.
 module _ {line : List ℕ} {px py rx ry height : ℕ} {out : List ℕ} {k at area : ℕ} {column : Column} {left : List ℕ} (h : Swept line px py rx ry height out k at area column left) (stop : column .second ≤ py) where
   module _ (i : ℕ) (l : at ≤ i) (m : i < rx) where
-    reach-stop : (a : ℕ) → a < k → a < length line → xOf (getD line a 0) ≤ i
+    reach-stop : (a : ℕ) → a < k → a < length line → x-of (getD line a 0) ≤ i
     reach-stop a n o = omega (arith, h .passed a n)
 
     two-over : (j : ℕ) → py ≤ j → j < ry → 2 ≤ over line (i ∷ j ∷ [])
     unfolding over low both
     two-over j n o =
-        let two : 2 ≤ low (take k line) j = h .standing .more j (omega arith) o in
+        let two : 2 ≤ low (take k line) j = h .state .more j (omega arith) o in
         let most : low (take k line) j ≤ over line (i ∷ j ∷ []) = column-least (λ w. true) line k i j reach-stop in
         omega arith
 
@@ -291,18 +246,18 @@ module _ {line : List ℕ} {px py rx ry height : ℕ} {out : List ℕ} {k at are
         go true false e = refl
         go true true (below e) = rw (n e)
 
-    gainIn-stop : gainIn line px py ry i ≡ 0
-    unfolding gainIn
-    gainIn-stop =
+    gain-column-stop : gain-column line px py ry i ≡ 0
+    unfolding gain-column
+    gain-column-stop =
         sum-none ry _
         (λ j n. row-stop j (eqb (over line (i ∷ j ∷ [])) 0)
         (λ o. ne-eqb (over line (i ∷ j ∷ [])) 0 (λ e. omega (arith, two-over j o n))))
 
-    sharedIn-stop : (t : ℕ) → sharedIn t line px py ry i ≡ 0
-    unfolding sharedIn both
-    sharedIn-stop t =
+    shared-column-stop : (t : ℕ) → shared-column t line px py ry i ≡ 0
+    unfolding shared-column both
+    shared-column-stop t =
         sum-none ry _
-        (λ j n. row-stop j (both (eqb (over line (i ∷ j ∷ [])) 1) (leb 1 (overBy t line (i ∷ j ∷ []))))
+        (λ j n. row-stop j (both (eqb (over line (i ∷ j ∷ [])) 1) (leb 1 (over-by t line (i ∷ j ∷ []))))
         (λ o. rw (ne-eqb (over line (i ∷ j ∷ [])) 1 (λ e. omega (arith, two-over j o n)))))
 
   sum-stop : (f : ℕ → ℕ) → ((i : ℕ) → at ≤ i → i < rx → f i ≡ 0) → sum at f ≡ sum rx f
@@ -311,44 +266,44 @@ module _ {line : List ℕ} {px py rx ry height : ℕ} {out : List ℕ} {k at are
       omega arith
 
   pub swept-stop : Crossed line px py rx ry height out left area
-  unfolding gainOver sharedWith count cells gainIn sharedIn
+  unfolding gain-over shared-with count cells gain-column shared-column
   swept-stop =
       record {
-        gained = h .gained ∙ sum-stop (gainIn line px py ry) gainIn-stop;
-        fallen = λ j. rw (sum-stop (sharedIn j line px py ry) (λ i l m. sharedIn-stop i l m j)) at (h .fallen j);
+        gained = h .gained ∙ sum-stop (gain-column line px py ry) gain-column-stop;
+        fallen = λ j. rw (sum-stop (shared-column j line px py ry) (λ i l m. shared-column-stop i l m j)) at (h .fallen j);
       }
 
 -- The area fits a word.
 pub swept-fits : {line : List ℕ} {px py rx ry height : ℕ} {out : List ℕ} {k at area : ℕ} {column : Column} {left : List ℕ} {start : ℕ} {first : Column} → Crossing line start first px py rx ry height out → Swept line px py rx ry height out k at area column left → area < 2 ^ 64
 swept-fits {line} {px} {py} {rx} {ry} {height} {out} {k} {at} {area} c h =
-    let columns : sum at (gainIn line px py ry) ≤ sum at (λ i. ry) =
-    sum-le at (gainIn line px py ry) (λ i. ry) (λ i l. gainIn-le line px py ry i) in
+    let columns : sum at (gain-column line px py ry) ≤ sum at (λ i. ry) =
+    sum-le at (gain-column line px py ry) (λ i. ry) (λ i l. gain-column-le line px py ry i) in
     let small : at * ry ≤ 1099511627776 = two-fit (let a : at ≤ 1048576 = omega arith in a) (c .ry-small) in
     omega (arith, sum-const at ry, h .gained)
 
 -- All columns are settled.
 pub swept-end : {line : List ℕ} {px py rx ry height : ℕ} {out : List ℕ} {k at area : ℕ} {column : Column} {left : List ℕ} → Swept line px py rx ry height out k at area column left → rx ≤ at → Crossed line px py rx ry height out left area
-unfolding gainOver sharedWith count cells gainIn sharedIn
+unfolding gain-over shared-with count cells gain-column shared-column
 swept-end {line} {px} {py} {rx} {ry} {height} {out} {k} {at} h l =
     let all : at ≡ rx = omega (arith, h .within) in
     record {
-      gained = h .gained ∙ ap (λ n. sum n (gainIn line px py ry)) all;
+      gained = h .gained ∙ ap (λ n. sum n (gain-column line px py ry)) all;
       fallen = λ j. rw all at (h .fallen j);
     }
 
 -- no entry from k on begins before the one at k
-ahead-of : (line : List ℕ) (k rx : ℕ) → Rising 0 line → (a : ℕ) → k ≤ a → a < length line → min (xOf (getD line k 0)) rx ≤ xOf (getD line a 0)
+ahead-of : (line : List ℕ) (k rx : ℕ) → Rising 0 line → (a : ℕ) → k ≤ a → a < length line → min (x-of (getD line k 0)) rx ≤ x-of (getD line a 0)
 ahead-of line k rx h a l m =
-    let rises : xOf (getD line k 0) ≤ xOf (getD line a 0) = rising-pair 0 line h k a l m in
+    let rises : x-of (getD line k 0) ≤ x-of (getD line a 0) = rising-pair 0 line h k a l m in
     omega arith
 
 -- A turn: the strip up to the entry at k is settled, and the entry passed.
 module _ {line : List ℕ} {px py rx ry height : ℕ} {out : List ℕ} {k at area : ℕ} {column : Column} {left : List ℕ} {start : ℕ} {first : Column} (c : Crossing line start first px py rx ry height out) (h : Swept line px py rx ry height out k at area column left) where
-  module _ {next : ℕ} (to : next ≡ min (xOf (getD line k 0)) rx) where
+  module _ {next : ℕ} (to : next ≡ min (x-of (getD line k 0)) rx) where
     within-next : next ≤ rx
     within-next = omega arith
 
-    ahead-next : (a : ℕ) → k ≤ a → a < length line → next ≤ xOf (getD line a 0)
+    ahead-next : (a : ℕ) → k ≤ a → a < length line → next ≤ x-of (getD line a 0)
     ahead-next = rw to (ahead-of line k rx (c .rising))
 
     pub turn-settling : Settling column at next py height left
@@ -358,12 +313,12 @@ module _ {line : List ℕ} {px py rx ry height : ℕ} {out : List ℕ} {k at are
       pub turn-settled : Swept line px py rx ry height out k (max at next) (area + gained) column left′
       turn-settled = swept-settled h next within-next ahead-next s c
 
-      pub swept-more : {at′ y index : ℕ} {column′ : Column} → at′ ≡ max at next → y ≡ yOf (getD line k 0) → index ≡ indexOf (getD line k 0) → column′ ≡ columnWith column y index → k < length line → Swept line px py rx ry height out (k + 1) at′ (area + gained) column′ left′
+      pub swept-more : {at′ y index : ℕ} {column′ : Column} → at′ ≡ max at next → y ≡ y-of (getD line k 0) → index ≡ index-of (getD line k 0) → column′ ≡ column-with column y index → k < length line → Swept line px py rx ry height out (k + 1) at′ (area + gained) column′ left′
       swept-more e f g d l = rw (e, d, f, g) (swept-passed c turn-settled l (omega arith))
 
   -- The end: past the last entry, the strip up to the reference.
   module _ (l : length line ≤ k) where
-    none-ahead : (a : ℕ) → k ≤ a → a < length line → rx ≤ xOf (getD line a 0)
+    none-ahead : (a : ℕ) → k ≤ a → a < length line → rx ≤ x-of (getD line a 0)
     none-ahead a m n = absurd (let no′ : ⊥ = omega arith in no′)
 
     pub end-settling : Settling column at rx py height left

@@ -14,34 +14,27 @@ use Rattle.hypervolume.proofs.Dominance.{first}
 use Rattle.hypervolume.proofs.Counting.{total-none, total-le-box}
 use Rattle.hypervolume.proofs.Axes.{FirstAtMost}
 use Rattle.sweep.specs.declared.column.Column.{Column}
-use Rattle.sweep.specs.Points.{points, Ready}
-use Rattle.sweep.specs.Line.{entryOf, xOf, indexOf, flagOf, sharedWith, Rising, Flagged, Ranked}
+use Rattle.sweep.specs.Points.{zip-points, Ready}
+use Rattle.sweep.specs.Line.{entry-of, x-of, index-of, flag-of, shared-with, Rising, Flagged, Ranked}
 use Rattle.sweep.specs.Strips.{Seen, Crossing, Crossed}
 use Rattle.sweep.specs.Entries.{Entering, Entered}
-use Rattle.sweep.proofs.Lists.{ascending-at, getD-mapped, front-then}
-use Rattle.sweep.proofs.Crossings.{three-fit}
-use Rattle.sweep.proofs.Flags.{flagged-front}
-use Rattle.sweep.proofs.Coordinates.{points-length, points-at, total-turned, contribution-turned}
-use Rattle.sweep.proofs.Layers.{Lined, lined-none, lined-more, below-lift, below-at, at-first, sharedWith-none, next-total, next-own, next-other}
+use Rattle.sweep.proofs.Coordinates.{ascending-at, points-length, points-at, total-turned, contribution-turned, three}
+use Rattle.sweep.proofs.Front.{getD-mapped, front-then}
+use Rattle.sweep.proofs.strips.SettleLaws.{three-fit}
+use Rattle.sweep.proofs.line.Flags.{flagged-front}
+use Rattle.sweep.proofs.Layers.{LineFor, line-for-none, line-for-more, at-first, shared-with-none, next-total, next-own, next-other}
+use Rattle.sweep.proofs.line.Entries.{below-lift, below-at}
 
 pub record Progress (xs ys zs out : List ℕ) (rx ry rz i held volume : ℕ) (line left : List ℕ) : Type 0 where
   pub ready : Ready xs ys zs (rx ∷ ry ∷ rz ∷ []) out
   pub within : i ≤ length xs
   pub long : length line ≡ 512
   pub alike : length left ≡ length out
-  pub counted : volume ≡ total (rz ∷ rx ∷ ry ∷ []) (take i (points zs xs ys))
-  pub each : (j : ℕ) → j < i → getD left j 0 ≡ contribution (rz ∷ rx ∷ ry ∷ []) (take i (points zs xs ys)) (getD (points zs xs ys) j [])
-  pub kept : (j : ℕ) → i ≤ j → getD left j 0 ≡ getD out j 0
+  pub counted : volume ≡ total (rz ∷ rx ∷ ry ∷ []) (take i (zip-points zs xs ys))
+  pub each : (j : ℕ) → j < i → getD left j 0 ≡ contribution (rz ∷ rx ∷ ry ∷ []) (take i (zip-points zs xs ys)) (getD (zip-points zs xs ys) j [])
+  pub behind : (j : ℕ) → i ≤ j → getD left j 0 ≡ getD out j 0
   pub few : held ≤ i
-  pub lined : Lined ry (take i (points zs xs ys)) (take held line)
-
--- a list of three numbers
-pub three : (r : List ℕ) → length r ≡ 3 → getD r 0 0 ∷ getD r 1 0 ∷ getD r 2 0 ∷ [] ≡ r
-three [] e = absurd (let no′ : ⊥ = omega arith in no′)
-three (a ∷ []) e = absurd (let no′ : ⊥ = omega arith in no′)
-three (a ∷ b ∷ []) e = absurd (let no′ : ⊥ = omega arith in no′)
-three (a ∷ b ∷ c ∷ []) e = refl
-three (a ∷ b ∷ c ∷ d ∷ r) e = absurd (let no′ : ⊥ = omega arith in no′)
+  pub lined : LineFor ry (take i (zip-points zs xs ys)) (take held line)
 
 pub progress-none : {xs ys zs r out : List ℕ} {line : List ℕ} → Ready xs ys zs r out → length r ≡ 3 → length line ≡ 512 → Progress xs ys zs out (getD r 0 0) (getD r 1 0) (getD r 2 0) 0 0 0 line out
 progress-none {xs} {ys} {zs} {r} {out} h e f =
@@ -52,9 +45,9 @@ progress-none {xs} {ys} {zs} {r} {out} h e f =
       alike = refl;
       counted = sym (total-none (getD r 2 0 ∷ getD r 0 0 ∷ getD r 1 0 ∷ []));
       each = λ j l. absurd (let no′ : ⊥ = omega arith in no′);
-      kept = λ j l. refl;
+      behind = λ j l. refl;
       few = omega arith;
-      lined = lined-none (getD r 1 0);
+      lined = line-for-none (getD r 1 0);
     }
 
 -- The next point, at i.
@@ -63,10 +56,10 @@ module _ {xs ys zs out : List ℕ} {rx ry rz i held volume : ℕ} {line left : L
   ready = h .ready
 
   all : List (List ℕ)
-  all = points zs xs ys
+  all = zip-points zs xs ys
 
   passed : List (List ℕ)
-  passed = take i (points zs xs ys)
+  passed = take i (zip-points zs xs ys)
 
   all-at : (j : ℕ) → j < length xs → getD all j [] ≡ getD zs j 0 ∷ getD xs j 0 ∷ getD ys j 0 ∷ []
   unfolding all
@@ -86,7 +79,7 @@ module _ {xs ys zs out : List ℕ} {rx ry rz i held volume : ℕ} {line left : L
   unfolding passed all
   passed-at j m = getD-take i all j [] m
 
-  next : take (i + 1) (points zs xs ys) ≡ passed ++ ((getD zs i 0 ∷ getD xs i 0 ∷ getD ys i 0 ∷ []) ∷ [])
+  next : take (i + 1) (zip-points zs xs ys) ≡ passed ++ ((getD zs i 0 ∷ getD xs i 0 ∷ getD ys i 0 ∷ []) ∷ [])
   unfolding passed all
   next = rw (add-one i, take-suc all i [] (omega (arith, all-many)), all-at i l)
 
@@ -99,19 +92,19 @@ module _ {xs ys zs out : List ℕ} {rx ry rz i held volume : ℕ} {line left : L
       rw (passed-at j before, all-at j (omega arith))
       (ascending-at zs (ready .rising) j i (omega arith) (omega (arith, ready))))
 
-  shared-at : (j : ℕ) → j < i → getD left j 0 ≡ contribution (rz ∷ rx ∷ ry ∷ []) (take (i + 1) (points zs xs ys)) (getD all j []) + (rz - getD zs i 0) * sharedWith (rx ∷ ry ∷ []) (take held line) (getD xs i 0 ∷ getD ys i 0 ∷ []) j
+  shared-at : (j : ℕ) → j < i → getD left j 0 ≡ contribution (rz ∷ rx ∷ ry ∷ []) (take (i + 1) (zip-points zs xs ys)) (getD all j []) + (rz - getD zs i 0) * shared-with (rx ∷ ry ∷ []) (take held line) (getD xs i 0 ∷ getD ys i 0 ∷ []) j
   unfolding all passed
   shared-at j m =
       h .each j m
       ∙ rw (next, ← (passed-at j m))
       (next-other (h .lined) rz rx (getD zs i 0) (getD xs i 0) (getD ys i 0) under j (omega (arith, passed-many)))
 
-  shared-none : (j : ℕ) → i ≤ j → sharedWith (rx ∷ ry ∷ []) (take held line) (getD xs i 0 ∷ getD ys i 0 ∷ []) j ≡ 0
+  shared-none : (j : ℕ) → i ≤ j → shared-with (rx ∷ ry ∷ []) (take held line) (getD xs i 0 ∷ getD ys i 0 ∷ []) j ≡ 0
   unfolding passed
   shared-none j m =
-      sharedWith-none (length passed) j (rx ∷ ry ∷ []) (take held line) (getD xs i 0 ∷ getD ys i 0 ∷ []) (h .lined .below) (omega (arith, passed-many))
+      shared-with-none (length passed) j (rx ∷ ry ∷ []) (take held line) (getD xs i 0 ∷ getD ys i 0 ∷ []) (h .lined .below) (omega (arith, passed-many))
 
-  line-indices : (k : ℕ) → indexOf (getD (take held line) k 0) < length left
+  line-indices : (k : ℕ) → index-of (getD (take held line) k 0) < length left
   unfolding passed
   line-indices k =
       below-at (length left) (take held line)
@@ -123,7 +116,7 @@ module _ {xs ys zs out : List ℕ} {rx ry rz i held volume : ℕ} {line left : L
   progress-index = omega (arith, ready .few)
 
   pub progress-rising : Rising 0 (take held line)
-  progress-rising = h .lined .kept .rising
+  progress-rising = h .lined .valid .rising
 
   -- where the next point belongs, and the column there
   module _ {at : ℕ} (ranked : Ranked (take held line) (getD xs i 0) at) where
@@ -142,21 +135,21 @@ module _ {xs ys zs out : List ℕ} {rx ry rz i held volume : ℕ} {line left : L
     pub progress-flags : Flagged [] (take at line)
     progress-flags =
         rw part at
-        (flagged-front [] (take at (take held line)) (drop at (take held line)) (rw (take-append-drop at (take held line)) (h .lined .kept .flags)))
+        (flagged-front [] (take at (take held line)) (drop at (take held line)) (rw (take-append-drop at (take held line)) (h .lined .valid .flags)))
 
-    pub progress-entering : {next : ℕ} → next ≡ entryOf (getD xs i 0) (getD ys i 0) i → Entering line held at next
+    pub progress-entering : {next : ℕ} → next ≡ entry-of (getD xs i 0) (getD ys i 0) i → Entering line held at next
     progress-entering {next} e =
         record {
           room = omega (arith, h .long, h .few, ready .few);
-          kept = h .lined .kept;
+          valid = h .lined .valid;
           ranked = rw (e, first-of) ranked;
           clear = rw e clear-of;
         }
       where
-        first-of : xOf (entryOf (getD xs i 0) (getD ys i 0) i) ≡ getD xs i 0
+        first-of : x-of (entry-of (getD xs i 0) (getD ys i 0) i) ≡ getD xs i 0
         first-of = omega (arith, ready .ys-small i, ready .few)
 
-        clear-of : flagOf (entryOf (getD xs i 0) (getD ys i 0) i) ≡ 0
+        clear-of : flag-of (entry-of (getD xs i 0) (getD ys i 0) i) ≡ 0
         clear-of = omega arith
 
   module _ {height : ℕ} (e : height ≡ rz - getD zs i 0) where
@@ -166,7 +159,7 @@ module _ {xs ys zs out : List ℕ} {rx ry rz i held volume : ℕ} {line left : L
           rising = progress-rising;
           indices = line-indices;
           reached = ranked .before;
-          standing = rw (part ranked) (seen .standing);
+          state = rw (part ranked) (seen .state);
           owned = seen .owned (length left) (λ k. first-indices k (decLe (suc k) at));
           rx-small = ready .reference-small 0;
           ry-small = ready .reference-small 1;
@@ -174,19 +167,19 @@ module _ {xs ys zs out : List ℕ} {rx ry rz i held volume : ℕ} {line left : L
           enough = λ j. enough j (decLe (suc j) i);
         }
       where
-        first-indices : (k : ℕ) → Dec (k < at) → indexOf (getD (take at line) k 0) < length left
+        first-indices : (k : ℕ) → Dec (k < at) → index-of (getD (take at line) k 0) < length left
         first-indices k (yes a) =
             rw (getD-take at line k 0 a, ← (getD-take held line k 0 (let u : k < held = omega (arith, at-held ranked) in u))) (line-indices k)
         first-indices k (no a) =
             rw (List·getD-eq-default (take at line) 0 {n = k} (omega (arith, length-take at line)))
             (omega (arith, ready, h .alike))
 
-        enough : (j : ℕ) → Dec (j < i) → height * sharedWith (rx ∷ ry ∷ []) (take held line) (getD xs i 0 ∷ getD ys i 0 ∷ []) j ≤ getD left j 0
+        enough : (j : ℕ) → Dec (j < i) → height * shared-with (rx ∷ ry ∷ []) (take held line) (getD xs i 0 ∷ getD ys i 0 ∷ []) j ≤ getD left j 0
         enough j (yes a) = rw e (omega (arith, shared-at j a))
         enough j (no a) = rw (shared-none j (omega arith), mul-zero height) (omega arith)
 
     module _ {left′ : List ℕ} {area : ℕ} (c : Crossed (take held line) (getD xs i 0) (getD ys i 0) rx ry height left left′ area) where
-      new-total : total (rz ∷ rx ∷ ry ∷ []) (take (i + 1) (points zs xs ys)) ≡ volume + height * area
+      new-total : total (rz ∷ rx ∷ ry ∷ []) (take (i + 1) (zip-points zs xs ys)) ≡ volume + height * area
       unfolding passed
       new-total =
           rw (next, e, h .counted, c .gained)
@@ -195,8 +188,8 @@ module _ {xs ys zs out : List ℕ} {rx ry rz i held volume : ℕ} {line left : L
       pub progress-fits : volume + height * area < 2 ^ 64
       unfolding box
       progress-fits =
-          let most : total (rz ∷ rx ∷ ry ∷ []) (take (i + 1) (points zs xs ys)) ≤ rz * (rx * (ry * 1)) =
-          total-le-box (rz ∷ rx ∷ ry ∷ []) (take (i + 1) (points zs xs ys)) in
+          let most : total (rz ∷ rx ∷ ry ∷ []) (take (i + 1) (zip-points zs xs ys)) ≤ rz * (rx * (ry * 1)) =
+          total-le-box (rz ∷ rx ∷ ry ∷ []) (take (i + 1) (zip-points zs xs ys)) in
           let small : rz * (rx * (ry * 1)) ≤ 1152921504606846976 =
           rw (mul-one ry) (three-fit (ready .reference-small 2) (ready .reference-small 0) (ready .reference-small 1)) in
           omega (arith, new-total)
@@ -204,11 +197,11 @@ module _ {xs ys zs out : List ℕ} {rx ry rz i held volume : ℕ} {line left : L
       pub progress-own : height * area < 2 ^ 64
       progress-own = omega (arith, progress-fits)
 
-      new-each : (own : ℕ) → own ≡ height * area → length left′ ≡ length left → (j : ℕ) → j < i + 1 → Dec (j < i) → getD (set left′ i own) j 0 ≡ contribution (rz ∷ rx ∷ ry ∷ []) (take (i + 1) (points zs xs ys)) (getD (points zs xs ys) j [])
+      new-each : (own : ℕ) → own ≡ height * area → length left′ ≡ length left → (j : ℕ) → j < i + 1 → Dec (j < i) → getD (set left′ i own) j 0 ≡ contribution (rz ∷ rx ∷ ry ∷ []) (take (i + 1) (zip-points zs xs ys)) (getD (zip-points zs xs ys) j [])
       unfolding all passed
       new-each own f g j m (yes a) =
-          let fall : getD left′ j 0 + height * sharedWith (rx ∷ ry ∷ []) (take held line) (getD xs i 0 ∷ getD ys i 0 ∷ []) j ≡ getD left j 0 = c .fallen j in
-          let due : getD left j 0 ≡ contribution (rz ∷ rx ∷ ry ∷ []) (take (i + 1) (points zs xs ys)) (getD all j []) + height * sharedWith (rx ∷ ry ∷ []) (take held line) (getD xs i 0 ∷ getD ys i 0 ∷ []) j =
+          let fall : getD left′ j 0 + height * shared-with (rx ∷ ry ∷ []) (take held line) (getD xs i 0 ∷ getD ys i 0 ∷ []) j ≡ getD left j 0 = c .fallen j in
+          let due : getD left j 0 ≡ contribution (rz ∷ rx ∷ ry ∷ []) (take (i + 1) (zip-points zs xs ys)) (getD all j []) + height * shared-with (rx ∷ ry ∷ []) (take held line) (getD xs i 0 ∷ getD ys i 0 ∷ []) j =
           rw e (shared-at j a) in
           getD-set-other left′ i j own 0 (λ q. omega arith) ∙ omega arith
       new-each own f g j m (no a) =
@@ -216,14 +209,14 @@ module _ {xs ys zs out : List ℕ} {rx ry rz i held volume : ℕ} {line left : L
           rw (last, getD-set-same left′ i own 0 (omega (arith, g, h .alike, ready .room)), f, all-at i l, next, e, c .gained)
           (sym (next-own (h .lined) rz rx (getD zs i 0) (getD xs i 0) (getD ys i 0) under))
 
-      new-kept : (own : ℕ) → (j : ℕ) → i + 1 ≤ j → getD (set left′ i own) j 0 ≡ getD out j 0
-      new-kept own j m =
-          let none : height * sharedWith (rx ∷ ry ∷ []) (take held line) (getD xs i 0 ∷ getD ys i 0 ∷ []) j ≡ 0 =
+      new-behind : (own : ℕ) → (j : ℕ) → i + 1 ≤ j → getD (set left′ i own) j 0 ≡ getD out j 0
+      new-behind own j m =
+          let none : height * shared-with (rx ∷ ry ∷ []) (take held line) (getD xs i 0 ∷ getD ys i 0 ∷ []) j ≡ 0 =
           rw (shared-none j (omega arith)) (mul-zero height) in
           getD-set-other left′ i j own 0 (λ q. omega arith)
-          ∙ omega (arith, c .fallen j, h .kept j (let n : i ≤ j = omega arith in n))
+          ∙ omega (arith, c .fallen j, h .behind j (let n : i ≤ j = omega arith in n))
 
-      pub progress-more : {own entry end : ℕ} {line′ : List ℕ} → own ≡ height * area → length left′ ≡ length left → entry ≡ entryOf (getD xs i 0) (getD ys i 0) i → Entered ry line held entry line′ end → length line′ ≡ length line → Progress xs ys zs out rx ry rz (i + 1) end (volume + own) line′ (set left′ i own)
+      pub progress-more : {own entry end : ℕ} {line′ : List ℕ} → own ≡ height * area → length left′ ≡ length left → entry ≡ entry-of (getD xs i 0) (getD ys i 0) i → Entered ry line held entry line′ end → length line′ ≡ length line → Progress xs ys zs out rx ry rz (i + 1) end (volume + own) line′ (set left′ i own)
       unfolding passed
       progress-more {own} {entry} {end} {line′} f g k p q =
           record {
@@ -233,56 +226,56 @@ module _ {xs ys zs out : List ℕ} {rx ry rz i held volume : ℕ} {line left : L
             alike = length-set left′ i own ∙ g ∙ h .alike;
             counted = rw f (sym new-total);
             each = λ j m. new-each own f g j m (decLe (suc j) i);
-            kept = new-kept own;
+            behind = new-behind own;
             few = omega (arith, p .within, h .few);
             lined =
                 rw next
-                (lined-more (h .lined) (getD zs i 0) (getD xs i 0) (getD ys i 0) (ready .ys-small i)
+                (line-for-more (h .lined) (getD zs i 0) (getD xs i 0) (getD ys i 0) (ready .ys-small i)
                 (omega (arith, passed-many, ready .few))
-                (p .kept)
+                (p .valid)
                 (rw (passed-many, ← k) (p .alike))
                 (p .below (suc (length passed)) (below-lift (length passed) (suc (length passed)) (take held line) (omega arith) (h .lined .below))
-                (rw (k, index-of) (omega (arith, passed-many)))));
+                (rw (k, index-is) (omega (arith, passed-many)))));
           }
         where
-          index-of : indexOf (entryOf (getD xs i 0) (getD ys i 0) i) ≡ i
-          index-of = omega (arith, ready .few)
+          index-is : index-of (entry-of (getD xs i 0) (getD ys i 0) i) ≡ i
+          index-is = omega (arith, ready .few)
 
 -- After the last point.
 module _ {xs ys zs out : List ℕ} {rx ry rz i held volume : ℕ} {line left : List ℕ} (h : Progress xs ys zs out rx ry rz i held volume line left) (l : length xs ≤ i) where
-  whole : take i (points zs xs ys) ≡ points zs xs ys
+  whole : take i (zip-points zs xs ys) ≡ zip-points zs xs ys
   whole =
-      take-all i (points zs xs ys)
+      take-all i (zip-points zs xs ys)
       (omega (arith, points-length zs xs ys (let a : length xs ≡ length zs = omega arith in a) (let a : length ys ≡ length zs = omega arith in a)))
 
-  progress-total : volume ≡ total (rx ∷ ry ∷ rz ∷ []) (points xs ys zs)
+  progress-total : volume ≡ total (rx ∷ ry ∷ rz ∷ []) (zip-points xs ys zs)
   progress-total = h .counted ∙ rw whole (total-turned rx ry rz xs ys zs)
 
   counts : List ℕ
-  counts = contributions (rx ∷ ry ∷ rz ∷ []) (points xs ys zs)
+  counts = contributions (rx ∷ ry ∷ rz ∷ []) (zip-points xs ys zs)
 
-  many : length (points xs ys zs) ≡ length xs
+  many : length (zip-points xs ys zs) ≡ length xs
   many = points-length xs ys zs (h .ready .ys-many) (h .ready .zs-many)
 
   counts-many : length counts ≡ length xs
   unfolding counts contributions
-  counts-many = length-map (points xs ys zs) (λ t. contribution (rx ∷ ry ∷ rz ∷ []) (points xs ys zs) t) ∙ many
+  counts-many = length-map (zip-points xs ys zs) (λ t. contribution (rx ∷ ry ∷ rz ∷ []) (zip-points xs ys zs) t) ∙ many
 
   counts-at : (j : ℕ) → j < length xs → getD counts j 0 ≡ getD left j 0
   unfolding counts contributions
   counts-at j m =
-      getD-mapped (λ t. contribution (rx ∷ ry ∷ rz ∷ []) (points xs ys zs) t) [] (points xs ys zs) j (omega (arith, many))
+      getD-mapped (λ t. contribution (rx ∷ ry ∷ rz ∷ []) (zip-points xs ys zs) t) [] 0 (zip-points xs ys zs) j (omega (arith, many))
       ∙ rw (points-at xs ys zs j (h .ready .ys-many) (h .ready .zs-many) m, h .each j (omega arith), whole, points-at zs xs ys j (omega arith) (omega arith) (omega arith))
       (sym (contribution-turned rx ry rz xs ys zs (getD xs j 0) (getD ys j 0) (getD zs j 0)))
 
-  progress-contributions : left ≡ contributions (rx ∷ ry ∷ rz ∷ []) (points xs ys zs) ++ drop (length xs) out
+  progress-contributions : left ≡ contributions (rx ∷ ry ∷ rz ∷ []) (zip-points xs ys zs) ++ drop (length xs) out
   unfolding counts
   progress-contributions =
       rw (← counts-many)
       (front-then left counts out (h .alike)
       (omega (arith, counts-many, h .ready .room))
       (λ j m. sym (counts-at j (omega (arith, counts-many))))
-      (λ j m. h .kept j (omega (arith, counts-many, h .within))))
+      (λ j m. h .behind j (omega (arith, counts-many, h .within))))
 
-pub progress-end : {xs ys zs out : List ℕ} {i held volume : ℕ} {line left : List ℕ} (r : List ℕ) → length r ≡ 3 → Progress xs ys zs out (getD r 0 0) (getD r 1 0) (getD r 2 0) i held volume line left → length xs ≤ i → (volume ≡ total r (points xs ys zs)) × (left ≡ contributions r (points xs ys zs) ++ drop (length xs) out)
+pub progress-end : {xs ys zs out : List ℕ} {i held volume : ℕ} {line left : List ℕ} (r : List ℕ) → length r ≡ 3 → Progress xs ys zs out (getD r 0 0) (getD r 1 0) (getD r 2 0) i held volume line left → length xs ≤ i → (volume ≡ total r (zip-points xs ys zs)) × (left ≡ contributions r (zip-points xs ys zs) ++ drop (length xs) out)
 progress-end r e h l = (rw (three r e) at (progress-total h l), rw (three r e) at (progress-contributions h l))

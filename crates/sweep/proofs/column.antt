@@ -1,0 +1,2 @@
+-- Laws of a column's state.
+pub mod WithLaws

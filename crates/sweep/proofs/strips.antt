@@ -1,0 +1,4 @@
+-- Laws of the pass along the line.
+mod LookBackLaws
+pub mod SettleLaws
+mod StripsLaws
