@@ -24,7 +24,6 @@ use Rattle.records.proofs.Columns.{length-column}
 use Rattle.records.proofs.LeaveOut.{leave-none, others-at}
 use Rattle.calls.proofs.Order.{Ascent, lower, level, ascent, ordered-ascending, ascending-ordered, others-ascending}
 use Rattle.calls.proofs.Known.{count-rows, known}
-use borrow.Author.Tests.{leb-true}
 use Rattle.sweep.specs.Points as sweep-points
 
 -- Three columns, read together, are the points.

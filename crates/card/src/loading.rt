@@ -7,22 +7,11 @@ use insertion::insert;
 use insertion::start;
 use text::Line;
 ghost use mathlib.Core.Path.{_≡_};
-ghost use mathlib.Core.List.{_∷_, []};
 ghost use Prim.Native.Nat.{_<_, min};
 ghost use lib.ListN.{length};
 ghost use Rattle.text.specs.Lines.{numbers-of};
 ghost use Rattle.card.specs.Card.{first-line, further-line, load, ReadInto, Short};
 ghost use Rattle.card.specs.Check.{check};
-
-// The point of three fields.
-fn point_of(x: u64, y: u64, z: u64) -> Point
-    requires { ⌜ (x < 100000000) × (y < 100000000) × (z < 100000000) ⌝ }
-    ensures { λ r. ⌜ r .at ≡ x ∷ y ∷ z ∷ [] ⌝ }
-{
-    Point {
-        at: [x as u32, y as u32, z as u32],
-    }
-}
 
 // Line 1: the start of the archive. Answers 15, 4, 1 or 0.
 fn first_line(w: &mut [u64], l: Line) -> u64
@@ -38,7 +27,7 @@ fn first_line(w: &mut [u64], l: Line) -> u64
     else {
         return 15;
     };
-    start(w, point_of(second, third, fourth), first)
+    start(w, Point::new(second, third, fourth), first)
 }
 
 // A further line: an insertion. Answers 15, 5 to 8 or 0.
@@ -55,7 +44,7 @@ fn further_line(w: &mut [u64], l: Line) -> u64
     else {
         return 15;
     };
-    insert(w, first, point_of(second, third, fourth))
+    insert(w, first, Point::new(second, third, fourth))
 }
 
 fn refused(refusal: u64, line: u64) -> Loaded

@@ -42,20 +42,14 @@ pub fn report(w: &[u64], out: &mut [u8]) -> Answer
 {
     let refusal = words::refusal(w);
     if refusal != 0 {
-        return Answer { refusal, value: 0 };
+        return Answer::refused(refusal);
     }
     let bytes = 53 * (w[0] + 1);
     if (out.len() as u64) < bytes {
-        return Answer {
-            refusal: 16,
-            value: 0,
-        };
+        return Answer::refused(16);
     }
     let s = shape_of(w);
     put_line(out, 0, w[0], s.rx, s.ry, s.rz, w[5]);
     put_records(w, out);
-    Answer {
-        refusal: 0,
-        value: bytes,
-    }
+    Answer::done(bytes)
 }

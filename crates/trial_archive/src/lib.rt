@@ -11,25 +11,18 @@ ghost use Rattle.card.specs.Card.{load};
 ghost use Rattle.card.specs.Check.{check};
 ghost use Rattle.reports.specs.Report.{report, reported};
 
-// A point from its coordinates, in the order of the axes.
-fn point(x: u32, y: u32, z: u32) -> Point
-    ensures { λ r. ⌜ r .at ≡ x ∷ y ∷ z ∷ [] ⌝ }
-{
-    Point { at: [x, y, z] }
-}
-
 #[no_mangle]
 pub extern "C" fn ta_start(words: &mut [u64], rx: u32, ry: u32, rz: u32, capacity: u64) -> u64
     ensures { λ r. ⌜ (r ≡ start (now (words .entry)) (shape-of capacity (rx ∷ ry ∷ rz ∷ [])) .refusal) × (now (words .exit) ≡ start (now (words .entry)) (shape-of capacity (rx ∷ ry ∷ rz ∷ [])) .words) ⌝ }
 {
-    insertion::start(words, point(rx, ry, rz), capacity)
+    insertion::start(words, Point::new(rx as u64, ry as u64, rz as u64), capacity)
 }
 
 #[no_mangle]
 pub extern "C" fn ta_insert(words: &mut [u64], number: u64, x: u32, y: u32, z: u32) -> u64
     ensures { λ r. ⌜ (r ≡ insert (now (words .entry)) (trial-of number (x ∷ y ∷ z ∷ [])) .refusal) × (now (words .exit) ≡ insert (now (words .entry)) (trial-of number (x ∷ y ∷ z ∷ [])) .words) ⌝ }
 {
-    insertion::insert(words, number, point(x, y, z))
+    insertion::insert(words, number, Point::new(x as u64, y as u64, z as u64))
 }
 
 #[no_mangle]
@@ -64,7 +57,7 @@ pub extern "C" fn ta_joint(words: &[u64], first: u64, second: u64) -> Answer
 pub extern "C" fn ta_gain(words: &[u64], x: u32, y: u32, z: u32) -> Answer
     ensures { λ r. ⌜ r ≡ gain-answer (now (words .entry)) (trial-of 0 (x ∷ y ∷ z ∷ [])) ⌝ }
 {
-    ask::gain(words, point(x, y, z))
+    ask::gain(words, Point::new(x as u64, y as u64, z as u64))
 }
 
 #[no_mangle]

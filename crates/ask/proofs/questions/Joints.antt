@@ -7,7 +7,7 @@ use lib.ListN.{length, getD, List·getD-append}
 use Rattle.hypervolume.specs.Counts.{cover, joint, joints}
 use Rattle.hypervolume.proofs.Counting.{SameCover, joint-same}
 use Rattle.words.specs.Archive.{Row, point, trials, points}
-use Rattle.words.specs.Layout.{word, read, read-shape}
+use Rattle.words.specs.Layout.{word, read}
 use Rattle.words.specs.Format.{archive-rows}
 use Rattle.words.specs.Places.{row-at}
 use Rattle.calls.specs.Calls.{reference-of, held-points, joint-of, row-of}

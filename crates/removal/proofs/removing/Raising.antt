@@ -12,12 +12,11 @@ use Rattle.slices.specs.Choices.{either}
 use Rattle.hypervolume.specs.Cells.{box}
 use Rattle.slices.proofs.Choices.{both-true}
 use Rattle.hypervolume.proofs.Counting.{joint-le-box}
-use Rattle.sweep.specs.Points.{Small}
 use Rattle.words.specs.Archive.{Trial, Row, Shape, Archive, point, reference}
-use Rattle.words.specs.Layout.{read, read-shape, word, record-words}
+use Rattle.words.specs.Layout.{read, word, record-words}
 use Rattle.words.specs.Format.{archive-rows, row-allowed, rows-allowed}
 use Rattle.words.specs.Places.{rows-before, row-at}
-use Rattle.words.proofs.Passed.{passed, row-bounds, passed-row, shape-bounds}
+use Rattle.words.proofs.Passed.{row-bounds}
 use Rattle.calls.specs.Calls.{reference-of, held-points, box-of, insert-gain, joint-with, row-of, others, without, removal-loss, exceeds, remove-overruns}
 use Rattle.records.specs.Columns.{field-of, column, leave-out}
 use Rattle.records.specs.Amounts.{moved, some-pair, MovedUnless, Each, shares}
@@ -94,7 +93,6 @@ kept-each w k p = column-each (read w .shape) (leave-out k (read w .rows)) (left
 pub joints-each : (w : List ℕ) (k : ℕ) → Each (shares (without (read w) (number-at w k)) (row-at w k .trial) (leave-out k (read w .rows))) (box-of (read w))
 unfolding without
 joints-each w k = shares-each (without (read w) (number-at w k)) (row-at w k .trial) (leave-out k (read w .rows))
-
 
 -- The three ways out of `raised`.
 module _ (w : List ℕ) (k : ℕ) (after : List ℕ) (r : ℕ) (p : archive-rows w 0 ≡ 0) (l : k < word w 0) (lost : r ≡ removal-loss (read w) (number-at w k)) where

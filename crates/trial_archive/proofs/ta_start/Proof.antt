@@ -3,8 +3,8 @@ use borrow.Author.Needs.{needs}
 use Rattle.trial_archive.proofs.ta_start.Statement.{statement}
 use Rattle.trial_archive.proofs.ta_start.Tie as tie
 
-point-requires : tie.Need-point-requires
-point-requires c κs = search needs
+new-requires : tie.Need-new-requires
+new-requires c κs = search needs
 
 start-requires : tie.Need-start-requires
 start-requires c κs = search needs
@@ -13,7 +13,7 @@ same-length : tie.Need-same-length
 same-length c = search needs
 
 returns : tie.Need-returns
-returns c = rw (c .before .before .before .point .ensures) at (c .before .before .start .ensures)
+returns c = rw (c .before .before .before .new .ensures) at (c .before .before .start .ensures)
 
 pub ta-start-spec : {M : Type 1} → statement M
-ta-start-spec = tie.close (tie.spec point-requires start-requires same-length returns)
+ta-start-spec = tie.close (tie.spec new-requires start-requires same-length returns)
