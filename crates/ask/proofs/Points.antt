@@ -121,9 +121,9 @@ columns-ready w out k e l room R is =
       rising = column-rising R rising;
     }
 
--- A loaded column: the first m words of the slice.
-loaded : (R : List Row) (k m : ℕ) (xs old : List ℕ) → m ≡ length R → xs ≡ put old 0 (column k R) → take m xs ≡ column k R
-loaded R k m xs old e is =
+-- A loaded-column column: the first m words of the slice.
+loaded-column : (R : List Row) (k m : ℕ) (xs old : List ℕ) → m ≡ length R → xs ≡ put old 0 (column k R) → take m xs ≡ column k R
+loaded-column R k m xs old e is =
     ap (take m) (is ∙ put-front old (column k R)) ∙ take-at (column k R) _ m (length-column k R ∙ sym e)
 
 pub points-loaded : (w : List ℕ) (k m n : ℕ) (xs ys zs xs₀ ys₀ zs₀ : List ℕ) → archive-rows w 0 ≡ 0 → n ≡ word w 0 → let R = leave-out k (rows-before w n) in
@@ -135,12 +135,12 @@ points-loaded w k m n xs ys zs xs₀ ys₀ zs₀ p e many few ex ey ez =
     record {
       many = all;
       few = omega (arith, known w p);
-      first = loaded _ 1 m xs xs₀ all (ex ∙ ap (λ R. put xs₀ 0 (column 1 R)) same);
-      second = loaded _ 2 m ys ys₀ all (ey ∙ ap (λ R. put ys₀ 0 (column 2 R)) same);
-      third = loaded _ 3 m zs zs₀ all (ez ∙ ap (λ R. put zs₀ 0 (column 3 R)) same);
+      first = loaded-column _ 1 m xs xs₀ all (ex ∙ ap (λ R. put xs₀ 0 (column 1 R)) same);
+      second = loaded-column _ 2 m ys ys₀ all (ey ∙ ap (λ R. put ys₀ 0 (column 2 R)) same);
+      third = loaded-column _ 3 m zs zs₀ all (ez ∙ ap (λ R. put zs₀ 0 (column 3 R)) same);
     }
 
--- Three loaded columns, and the reference, as the sweep is given them.
+-- Three loaded-column columns, and the reference, as the sweep is given them.
 pub record Columns (w : List ℕ) (k m : ℕ) (xs ys zs r : List ℕ) : Type 0 where
   pub points : PointsLoaded w k m xs ys zs
   pub under : r ≡ reference (read-shape w)

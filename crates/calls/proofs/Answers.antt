@@ -24,13 +24,13 @@ unfolding guard
 guard-off true n rest e = absurd (let no′ : ⊥ = omega arith in no′)
 guard-off false n rest e = refl
 
-pub judged-13 : (b : Bool) (old new : List ℕ) → b ≡ true → (_≡_ {A = ℕ} 13 (guard b 13 0)) × (old ≡ pick b old new)
+pub row-13-given : (b : Bool) (old new : List ℕ) → b ≡ true → (_≡_ {A = ℕ} 13 (guard b 13 0)) × (old ≡ pick b old new)
 unfolding guard pick
-judged-13 b old new e = rw e (refl, refl)
+row-13-given b old new e = rw e (refl, refl)
 
-pub judged-done : (b : Bool) (old new left : List ℕ) → b ≡ false → left ≡ new → (_≡_ {A = ℕ} 0 (guard b 13 0)) × (left ≡ pick b old new)
+pub row-13-passed : (b : Bool) (old new left : List ℕ) → b ≡ false → left ≡ new → (_≡_ {A = ℕ} 0 (guard b 13 0)) × (left ≡ pick b old new)
 unfolding guard pick
-judged-done b old new left e l = rw e (refl, l)
+row-13-passed b old new left e l = rw e (refl, l)
 
 -- Rows 1 to 3 refuse whatever comes after them.
 pub rows-refused : (w : List ℕ) (r rest : ℕ) → r ≡ archive-rows w 0 → (r ≡ 0 → ⊥) → archive-rows w rest ≡ r
@@ -69,5 +69,5 @@ unfolding leaves
 leaves-done w log n v archive notes e = rw e
 
 -- An answer without a value, and the words with it.
-pub turned-down : (o : Outcome) (w log : List ℕ) (r : ℕ) → o ≡ record { refusal = r; value = 0; words = w; log = log } → (r ≡ o .refusal) × (w ≡ o .words)
-turned-down o w log r e = (sym (ap (λ (x : Outcome). x .refusal) e), sym (ap (λ (x : Outcome). x .words) e))
+pub outcome-refused : (o : Outcome) (w log : List ℕ) (r : ℕ) → o ≡ record { refusal = r; value = 0; words = w; log = log } → (r ≡ o .refusal) × (w ≡ o .words)
+outcome-refused o w log r e = (sym (ap (λ (x : Outcome). x .refusal) e), sym (ap (λ (x : Outcome). x .words) e))

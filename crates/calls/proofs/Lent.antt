@@ -17,10 +17,10 @@ unfolding leaves
 leaves-refusal w log zero value words noted = refl
 leaves-refusal w log (suc k) value words noted = refl
 
-pub leaves-done : (w log : List ℕ) (k value : ℕ) (words noted : List ℕ)
+pub leaves-unrefused : (w log : List ℕ) (k value : ℕ) (words noted : List ℕ)
     → leaves w log k value words noted .refusal ≡ 0
     → leaves w log k value words noted ≡ leaves w log 0 value words noted
-leaves-done w log k value words noted e =
+leaves-unrefused w log k value words noted e =
     ap (λ n. leaves w log n value words noted) (sym (leaves-refusal w log k value words noted) ∙ e)
 
 -- A call with these rows, value, new archive and notes that is done on these words.
@@ -37,7 +37,7 @@ call-done : (w log : List ℕ) (rows value : ℕ) (a : Archive) (noted : List �
 unfolding leaves
 call-done w log rows value a noted e =
     let both = passed-both w rows (sym (leaves-refusal w log (archive-rows w rows) value (layout a ++ behind w) noted) ∙ e) in
-    let done = leaves-done w log (archive-rows w rows) value (layout a ++ behind w) noted e in
+    let done = leaves-unrefused w log (archive-rows w rows) value (layout a ++ behind w) noted e in
     record {
       passed = passed w (both .0);
       rows = both .1;

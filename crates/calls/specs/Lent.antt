@@ -73,7 +73,7 @@ reduce w k log =
     (notes (length (read w .rows) - k) (read w))
 
 -- The answer, the archive slice and the log of a reduction are those of its outcome.
-pub record Reduced (o : Outcome) (r : Answer) (words log : List ℕ) : Type 0 where
+pub record MeetsOutcome (o : Outcome) (r : Answer) (words log : List ℕ) : Type 0 where
   pub answered : r ≡ record { refusal = o .refusal; value = o .value }
   pub left : words ≡ o .words
   pub noted : log ≡ o .log

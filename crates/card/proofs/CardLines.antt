@@ -1,10 +1,11 @@
 -- Laws of the lines of a card: what is left of it from a line on.
 use Prim.Native.Nat.{ℕ, zero, suc, _+_, _-_, _*_, _≤_, _<_}
-use mathlib.Core.Path.{_≡_, refl, sym, ap, _∙_}
+use mathlib.Core.Path.{_≡_, refl, ap, _∙_}
 use mathlib.Core.List.{List, _∷_, []}
 use native.Mathlib.Omega.{arith}
 use lib.ListN.{length, take, drop, length-take, length-drop}
 use lib.Seq.{drop-drop, take-nil, take-take, getD-take}
+use Rattle.slices.proofs.Put.{drop-take}
 use Rattle.text.specs.Fields.{field-from}
 use Rattle.text.specs.Lines.{line, line-from}
 use Rattle.card.specs.Card.{line-count, lines-from, lines}
@@ -33,14 +34,6 @@ lines-left card i l =
 pub no-line-left : (card : List ℕ) (i : ℕ) → line-count card ≤ i → lines (drop (33 * i) card) ≡ []
 unfolding line-count
 no-line-left card i l = lines-none (drop (33 * i) card) (omega (arith, length-drop (33 * i) card))
-
-drop-take : (from m : ℕ) (l : List ℕ) → drop from (take m l) ≡ take (m - from) (drop from l)
-drop-take zero m l = let all : m - 0 ≡ m = omega arith in rw all
-drop-take (suc from) zero l = let none : 0 - suc from ≡ 0 = omega arith in rw none
-drop-take (suc from) (suc m) [] = sym (take-nil (suc m - suc from))
-drop-take (suc from) (suc m) (x ∷ l) =
-    let step : suc m - suc from ≡ m - from = omega arith in
-    rw step (drop-take from m l)
 
 -- What lies within the first k bytes.
 window : (m n k : ℕ) (bytes : List ℕ) → m + n ≤ k → take n (drop m (take k bytes)) ≡ take n (drop m bytes)

@@ -18,7 +18,7 @@ use Rattle.slices.specs.Choices.{pick, either}
 use Rattle.words.specs.Format.{held, distinct}
 use Rattle.calls.specs.Calls.{place, others}
 use Rattle.calls.proofs.Members.{map-map, map-id, place-length, place-member, member-place, place-cover}
-use Rattle.calls.proofs.Order.{Ascending, ascending-place, held-place, distinct-place, before-trans, others-trial}
+use Rattle.calls.proofs.Order.{AscendingTrials, ascending-place, held-place, distinct-place, before-trans, others-trial}
 use Rattle.words.proofs.Held.{eqb-sym}
 use Rattle.history.specs.Book.{has, struck-out}
 use Rattle.history.specs.History.{sorted}
@@ -70,8 +70,8 @@ member-sorted t (u ∷ ts) m = member-place (λ v. v) t u (sorted ts) (go (membe
     go later (inl e) = List·Memᴰ·head e
     go later (inr k) = List·Memᴰ·tail (later k)
 
-pub sorted-ascending : (ts : List Trial) → distinct ts ≡ true → Ascending (sorted ts)
-unfolding sorted distinct Ascending
+pub sorted-ascending : (ts : List Trial) → distinct ts ≡ true → AscendingTrials (sorted ts)
+unfolding sorted distinct AscendingTrials
 sorted-ascending [] d = tt
 sorted-ascending (t ∷ ts) d =
     let parts = both-true _ _ d in
@@ -131,9 +131,9 @@ place-behind : (t u : Trial) (ts : List Trial) → before t u ≡ false → plac
 unfolding place pick
 place-behind t u ts e = rw e
 
-struck-place : (n : ℕ) (t : Trial) (ts : List Trial) → (n ≡ t .number → ⊥) → Ascending ts
+struck-place : (n : ℕ) (t : Trial) (ts : List Trial) → (n ≡ t .number → ⊥) → AscendingTrials ts
     → struck-out n (place (λ u. u) t ts) ≡ place (λ u. u) t (struck-out n ts)
-unfolding Ascending
+unfolding AscendingTrials
 struck-place n t [] e h = unfold place struck-out pick in rw (ne-eqb n (t .number) e)
 struck-place n t (u ∷ ts) e h = go (before t u) refl (struck-place n t ts e (h .1))
   where

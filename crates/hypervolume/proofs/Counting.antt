@@ -15,7 +15,7 @@ use Rattle.hypervolume.specs.Cells.{holds, dominates, join, sum, cells, 
 use Rattle.hypervolume.specs.Counts.{cover, total, contribution, joint, gain}
 use Rattle.hypervolume.proofs.Sums.{sum-none, sum-steady, cells-ext, cells-add, cells-le, cells-none}
 use Rattle.hypervolume.proofs.Tests.{holds-le-one}
-use Rattle.hypervolume.proofs.Dominance.{dominates-join, within, cover-append, cover-joins, Among, atMost, atMost-dominates}
+use Rattle.hypervolume.proofs.Dominance.{dominates-join, within, cover-append, cover-joins, Among, at-most, atMost-dominates}
 
 -- Counts respect equality, sums and order.
 pub count-ext : (r : List ℕ) (p q : List ℕ → Bool) → ((c : List ℕ) → p c ≡ q c) → count r p ≡ count r q
@@ -157,14 +157,14 @@ unfolding contribution cover Twice
 contribution-twice r trials s t h =
     count-ext r _ _ (λ c. ap (both (dominates t c)) (twice-one (dominates s c) (cover trials c) 1 (omega arith) (h c)))
 
-twice-none : (d : Bool) (k : ℕ) → (d ≡ true → 2 ≤ k) → both d (eqb k 0) ≡ false
+pub twice-not : (n : ℕ) → n < 2 → (d : Bool) (k : ℕ) → (d ≡ true → 2 ≤ k) → both d (eqb k n) ≡ false
 unfolding both
-twice-none true k h = let two : 2 ≤ k = h refl in ne-eqb k 0 (λ e. omega arith)
-twice-none false k h = refl
+twice-not n l true k h = let two : 2 ≤ k = h refl in ne-eqb k n (λ e. omega arith)
+twice-not n l false k h = refl
 
 pub gain-twice : (r : List ℕ) (trials : List (List ℕ)) (s : List ℕ) → Twice trials s → gain r trials s ≡ 0
 unfolding gain Twice
-gain-twice r trials s h = count-none r _ (λ c. twice-none (dominates s c) (cover trials c) (h c))
+gain-twice r trials s h = count-none r _ (λ c. twice-not 0 (omega arith) (dominates s c) (cover trials c) (h c))
 
 -- Law 8. What a point dominates is its edge product; every count is at most the box.
 pub layered : (r z : ℕ) (rs : List ℕ) (f g : List ℕ → ℕ) → ((i : ℕ) (c : List ℕ) → i < z → f (i ∷ c) ≡ 0) → ((i : ℕ) (c : List ℕ) → z ≤ i → f (i ∷ c) ≡ g c) → cells (r ∷ rs) f ≡ (r - z) * cells rs g
@@ -251,7 +251,7 @@ unfolding total cover
 total-none r = count-none r _ (λ c. refl)
 
 -- two of the trials at most s: Twice, the hypothesis of law 6
-pub twice-of : (front back more : List (List ℕ)) (p q s : List ℕ) → atMost p s ≡ true → atMost q s ≡ true → Twice (front ++ (p ∷ (back ++ (q ∷ more)))) s
+pub twice-of : (front back more : List (List ℕ)) (p q s : List ℕ) → at-most p s ≡ true → at-most q s ≡ true → Twice (front ++ (p ∷ (back ++ (q ∷ more)))) s
 unfolding Twice cover holds
 twice-of front back more p q s hp hq c d =
     let p-too : dominates p c ≡ true = atMost-dominates p s c hp d in

@@ -48,17 +48,17 @@ dominates-join (x ∷ p) (y ∷ q) (i ∷ c) =
     (both-swap (leb x i) (leb y i) (dominates p c) (dominates q c))
 
 -- p is at most s on every axis.
-unfoldable pub atMost : List ℕ → List ℕ → Bool
-atMost [] s = true
-atMost (x ∷ p) s = both (leb x (first s)) (atMost p (rest s))
+unfoldable pub at-most : List ℕ → List ℕ → Bool
+at-most [] s = true
+at-most (x ∷ p) s = both (leb x (first s)) (at-most p (rest s))
 
 -- Where s dominates, so does whatever is at most s.
-pub atMost-dominates : (p s c : List ℕ) → atMost p s ≡ true → dominates s c ≡ true → dominates p c ≡ true
-unfolding atMost dominates
+pub atMost-dominates : (p s c : List ℕ) → at-most p s ≡ true → dominates s c ≡ true → dominates p c ≡ true
+unfolding at-most dominates
 atMost-dominates [] s c a d = refl
 atMost-dominates (x ∷ p) s [] a d = refl
 atMost-dominates (x ∷ p) s (i ∷ c) a d =
-    let a′ = both-true (leb x (first s)) (atMost p (rest s)) a in
+    let a′ = both-true (leb x (first s)) (at-most p (rest s)) a in
     let d′ = both-true (leb (first s) i) (dominates (rest s) c) (sym (dominates-cons s i c) ∙ d) in
     let here : leb x i ≡ true =
     le-leb x i (le-trans (leb-true x (first s) (a′ .0)) (leb-true (first s) i (d′ .0))) in

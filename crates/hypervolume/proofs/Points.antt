@@ -63,21 +63,21 @@ joined-end {n} {p} {q} {corner} {axis} h l =
     h .so-far ∙ ap (λ k. raised k p q) last ∙ raised-end p q (omega arith)
 
 -- Dominance: the axes left decide.
-pub record Passed (n : ℕ) (p c : List ℕ) (axis : ℕ) : Type 0 where
+pub record AxesPassed (n : ℕ) (p c : List ℕ) (axis : ℕ) : Type 0 where
   pub along : Along n p c axis
   pub so-far : dominates p c ≡ dominates (drop axis p) (drop axis c)
 
-pub passed-none : (n : ℕ) (p c : List ℕ) → length p ≡ n → length c ≡ n → Passed n p c 0
+pub passed-none : (n : ℕ) (p c : List ℕ) → length p ≡ n → length c ≡ n → AxesPassed n p c 0
 passed-none n p c e f = record { along = record { left = e; right = f; within = omega arith }; so-far = refl }
 
-passed-step : {n : ℕ} {p c : List ℕ} {axis : ℕ} → Passed n p c axis → axis < n → dominates p c ≡ both (leb (getD p axis 0) (getD c axis 0)) (dominates (drop (axis + 1) p) (drop (axis + 1) c))
+passed-step : {n : ℕ} {p c : List ℕ} {axis : ℕ} → AxesPassed n p c axis → axis < n → dominates p c ≡ both (leb (getD p axis 0) (getD c axis 0)) (dominates (drop (axis + 1) p) (drop (axis + 1) c))
 unfolding dominates
 passed-step {n} {p} {c} {axis} h l =
     let m : axis < length p = omega arith in
     let o : axis < length c = omega arith in
     h .so-far ∙ rw (drop-cons p axis 0 m, drop-cons c axis 0 o, add-one axis)
 
-pub passed-more : {n : ℕ} {p c : List ℕ} {axis : ℕ} → Passed n p c axis → axis < n → getD p axis 0 ≤ getD c axis 0 → Passed n p c (axis + 1)
+pub passed-more : {n : ℕ} {p c : List ℕ} {axis : ℕ} → AxesPassed n p c axis → axis < n → getD p axis 0 ≤ getD c axis 0 → AxesPassed n p c (axis + 1)
 unfolding both
 passed-more {n} {p} {c} {axis} h l e =
     record {
@@ -85,12 +85,12 @@ passed-more {n} {p} {c} {axis} h l e =
       so-far = passed-step h l ∙ rw (le-leb (getD p axis 0) (getD c axis 0) e);
     }
 
-pub passed-stop : {n : ℕ} {p c : List ℕ} {axis : ℕ} → Passed n p c axis → axis < n → getD c axis 0 < getD p axis 0 → false ≡ dominates p c
+pub passed-stop : {n : ℕ} {p c : List ℕ} {axis : ℕ} → AxesPassed n p c axis → axis < n → getD c axis 0 < getD p axis 0 → false ≡ dominates p c
 unfolding both
 passed-stop {n} {p} {c} {axis} h l e =
     sym (passed-step h l ∙ rw (lt-leb (getD p axis 0) (getD c axis 0) e))
 
-pub passed-end : {n : ℕ} {p c : List ℕ} {axis : ℕ} → Passed n p c axis → n ≤ axis → true ≡ dominates p c
+pub passed-end : {n : ℕ} {p c : List ℕ} {axis : ℕ} → AxesPassed n p c axis → n ≤ axis → true ≡ dominates p c
 unfolding dominates
 passed-end {n} {p} {c} {axis} h l =
     let last : axis ≡ length p = omega arith in

@@ -6,15 +6,15 @@ use mathlib.Core.Bool.{Bool, true, false}
 use mathlib.Core.List.{List, _∷_, _++_, []}
 use native.Mathlib.Nat.{le-trans}
 use native.Mathlib.Omega.{arith}
-use lib.Dec.{leb, eqb}
+use lib.Dec.{leb}
 use lib.ListN.{length, getD, set, length-set}
-use borrow.Author.Tests.{leb-true, leb-false, le-leb, ne-eqb}
+use borrow.Author.Tests.{leb-true, leb-false, le-leb}
 use Rattle.slices.specs.Choices.{both}
 use Rattle.hypervolume.specs.Cells.{dominates, join}
 use Rattle.hypervolume.specs.Counts.{cover, total, contribution}
 use Rattle.slices.proofs.Choices.{both-true, both-intro}
 use Rattle.hypervolume.proofs.Dominance.{dominates-join, cover-append}
-use Rattle.hypervolume.proofs.Counting.{count-none, Twice, total-twice, contribution-twice}
+use Rattle.hypervolume.proofs.Counting.{count-none, Twice, total-twice, contribution-twice, twice-not}
 
 -- Each of the points is one that law 6 leaves out.
 unfoldable pub Spare : List (List ℕ) → List (List ℕ) → Type 0
@@ -43,14 +43,9 @@ contribution-skips r trials (s ∷ skipped) t h =
     ∙ contribution-skips r trials skipped t (spare-rest trials s skipped h)
 
 -- A point that is left out contributes nothing.
-twice-alone : (d : Bool) (k : ℕ) → (d ≡ true → 2 ≤ k) → both d (eqb k 1) ≡ false
-unfolding both
-twice-alone true k h = let two : 2 ≤ k = h refl in ne-eqb k 1 (λ e. omega arith)
-twice-alone false k h = refl
-
 pub contribution-spare : (r : List ℕ) (trials : List (List ℕ)) (s : List ℕ) → Twice trials s → contribution r trials s ≡ 0
 unfolding contribution Twice
-contribution-spare r trials s h = count-none r _ (λ c. twice-alone (dominates s c) (cover trials c) (h c))
+contribution-spare r trials s h = count-none r _ (λ c. twice-not 1 (omega arith) (dominates s c) (cover trials c) (h c))
 
 -- Dominance of one point, seen as a cell, carries over to whatever that point dominates.
 pub dominates-self : (p : List ℕ) → dominates p p ≡ true

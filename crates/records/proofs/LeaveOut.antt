@@ -7,10 +7,10 @@ use lib.ListN.{length, take, drop, getD, length-append, length-take, length-drop
 use lib.Seq.{take-all}
 use Rattle.words.specs.Archive.{Row, Trial, trials}
 use Rattle.records.specs.Columns.{leave-out}
-use mathlib.Core.Bool.{Bool, true, false, not}
-use Rattle.slices.specs.Choices.{pick, either}
+use mathlib.Core.Bool.{true, false, not}
+use Rattle.slices.specs.Choices.{pick}
+use Rattle.calls.proofs.Members.{others-none}
 use Rattle.calls.specs.Calls.{row-of, others}
-use lib.Dec.{eqb}
 use borrow.Author.Tests.{eq-eqb, ne-eqb, not-true}
 use Rattle.slices.proofs.Choices.{both-true}
 use Rattle.words.specs.Format.{held, distinct}
@@ -27,16 +27,6 @@ unfolding leave-out
 length-leave-out k rows l =
     ap suc (length-append (take k rows) (drop (suc k) rows) ∙ ap₂ _+_ (length-take k rows) (length-drop (suc k) rows))
     ∙ (let e : suc (min k (length rows) + (length rows - suc k)) ≡ length rows = omega arith in e)
-
--- The others of a number that is not held are all.
-pub others-none : (rows : List Row) (n : ℕ) → held n (trials rows) ≡ false → others n rows ≡ rows
-unfolding others held trials either pick
-others-none [] n h = refl
-others-none (r ∷ rows) n h = go (eqb (r .trial .number) n) h (λ g. others-none rows n g)
-  where
-    go : (b : Bool) → either b (held n (trials rows)) ≡ false → (held n (trials rows) ≡ false → others n rows ≡ rows) → pick b (others n rows) (r ∷ others n rows) ≡ r ∷ rows
-    go true h later = absurd (let z : _≡_ {A = ℕ} 0 1 = cc in omega arith)
-    go false h later = ap (λ l. r ∷ l) (later h)
 
 -- A number that is held is no number that is not.
 apart : (m n : ℕ) (ts : List Trial) → held m ts ≡ false → held n ts ≡ true → m ≡ n → ⊥
@@ -62,7 +52,7 @@ others-at [] k d l h = absurd (let no′ : ⊥ = omega arith in no′)
 others-at (r ∷ rows) zero d l h =
     let parts = both-true (not (held (r .trial .number) (trials rows))) (distinct (trials rows)) h in
     rw (eq-eqb (r .trial .number) (r .trial .number) refl)
-    (others-none rows (r .trial .number) (not-true (held (r .trial .number) (trials rows)) (parts .0)))
+    (others-none (r .trial .number) rows (not-true (held (r .trial .number) (trials rows)) (parts .0)))
 others-at (r ∷ rows) (suc k) d l h =
     let parts = both-true (not (held (r .trial .number) (trials rows))) (distinct (trials rows)) h in
     let there : held (getD rows k d .trial .number) (trials rows) ≡ true = held-at rows k d (omega arith) in

@@ -1,4 +1,4 @@
 -- Laws of the functions over one field of the records.
-pub mod Gathering
+pub mod Gathered
 pub mod Loading
 pub mod Keeping

@@ -1,4 +1,4 @@
-// Records in an archive's words: found by their place, entered and struck out; one field of all of them; contributions moved
+// Records in an archive's words: found by their place, enter-leaves and strike-leaves out; one field of all of them; contributions moved
 // by amounts.
 mod amounts;
 mod places;

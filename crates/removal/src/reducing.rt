@@ -14,7 +14,7 @@ ghost use Rattle.words.specs.Layout.{word, layout, read, behind};
 ghost use Rattle.words.specs.Format.{archive-rows};
 ghost use Rattle.calls.specs.Calls.{reduce-rows, dropped, note, after-drops, notes};
 ghost use Rattle.calls.specs.Counted.{IsCounted};
-ghost use Rattle.calls.specs.Lent.{reduce, Reduced};
+ghost use Rattle.calls.specs.Lent.{reduce, MeetsOutcome};
 
 // Rows 11 to 13.
 fn reduce_rows(w: &[u64], k: u64, log: usize) -> u64
@@ -60,7 +60,7 @@ fn drop_all(w: &mut [u64], drops: usize, log: &mut [u64])
 
 // Reduce (k, log). Answers the count of drops.
 pub fn reduce(w: &mut [u64], k: u64, log: &mut [u64]) -> Answer
-    ensures { λ r. ⌜ Reduced (reduce (now (w .entry)) k (now (log .entry))) r (now (w .exit)) (now (log .exit)) ⌝ }
+    ensures { λ r. ⌜ MeetsOutcome (reduce (now (w .entry)) k (now (log .entry))) r (now (w .exit)) (now (log .exit)) ⌝ }
 {
     let refused = refusal(w);
     if refused != 0 {

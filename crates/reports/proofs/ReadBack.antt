@@ -19,9 +19,9 @@ use Rattle.reports.specs.Report.{report-line, head-line, record-line, re
 use Rattle.reports.specs.Theorems.{ReportedAlike}
 
 -- A column, and what is behind it.
-column-back : (width m n : ℕ) {p q : List ℕ} → 1 ≤ width → m < 10 ^ width → n < 10 ^ width
+column-read : (width m n : ℕ) {p q : List ℕ} → 1 ≤ width → m < 10 ^ width → n < 10 ^ width
     → justified width m ++ p ≡ justified width n ++ q → (m ≡ n) × (p ≡ q)
-column-back width m n {p} {q} wide a b e =
+column-read width m n {p} {q} wide a b e =
     let front : justified width m ≡ justified width n =
     sym (take-at (justified width m) p width (length-justified width m)) ∙ ap (take width) e ∙ take-at (justified width n) q width (length-justified width n) in
     let behind : p ≡ q =
@@ -42,11 +42,11 @@ line-back : {a b c d e a′ b′ c′ d′ e′ : ℕ} {p q : List ℕ} → Line
     → (a ≡ a′) × (b ≡ b′) × (c ≡ c′) × (d ≡ d′) × (e ≡ e′) × (p ≡ q)
 unfolding report-line
 line-back {a} {b} {c} {d} {e} {a′} {b′} {c′} {d′} {e′} {p} {q} s t same =
-    let first = column-back 8 a a′ (lit≤ tt) (s .first) (t .first) (simp append-assoc at same) in
-    let second = column-back 8 b b′ (lit≤ tt) (s .second) (t .second) (first .1) in
-    let third = column-back 8 c c′ (lit≤ tt) (s .third) (t .third) (second .1) in
-    let fourth = column-back 8 d d′ (lit≤ tt) (s .fourth) (t .fourth) (third .1) in
-    let last = column-back 20 e e′ (lit≤ tt) (s .last) (t .last) (fourth .1) in
+    let first = column-read 8 a a′ (lit≤ tt) (s .first) (t .first) (simp append-assoc at same) in
+    let second = column-read 8 b b′ (lit≤ tt) (s .second) (t .second) (first .1) in
+    let third = column-read 8 c c′ (lit≤ tt) (s .third) (t .third) (second .1) in
+    let fourth = column-read 8 d d′ (lit≤ tt) (s .fourth) (t .fourth) (third .1) in
+    let last = column-read 20 e e′ (lit≤ tt) (s .last) (t .last) (fourth .1) in
     (first .0, second .0, third .0, fourth .0, last .0, ap (drop 1) (last .1))
 
 row-shown : (s : Shape) → ShapeBounds s → (r : Row) → RowBounds s r

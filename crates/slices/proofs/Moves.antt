@@ -1,17 +1,12 @@
 -- The loops of clear, move_down and move_up: what is written is known beforehand, and what is read is not written yet.
-use Prim.Native.Nat.{ℕ, zero, suc, _+_, _-_, _≤_, _<_}
+use Prim.Native.Nat.{ℕ, _+_, _-_, _≤_, _<_}
 use mathlib.Core.Path.{_≡_, refl, sym, _∙_}
 use mathlib.Core.List.{List}
 use native.Mathlib.Omega.{arith}
-use lib.ListN.{length, take, drop, set, getD, replicate, length-drop, length-replicate}
+use lib.ListN.{length, take, drop, set, getD, replicate, getD-replicate, length-drop, length-replicate}
 use lib.Seq.{length-take-le, getD-take, getD-drop}
 use Rattle.slices.specs.Put.{put}
 use Rattle.slices.proofs.Loops.{Written, written-none, written-more, written-behind, written-end, Filled, filled-none, filled-more, filled-before, filled-end}
-
-getD-replicate : (n i v : ℕ) → i < n → v ≡ getD (replicate n v) i 0
-getD-replicate zero i v l = absurd (let no′ : ⊥ = omega arith in no′)
-getD-replicate (suc n) zero v l = refl
-getD-replicate (suc n) (suc i) v l = getD-replicate n i v (omega arith)
 
 pub record Clearing (old : List ℕ) (at n i : ℕ) (now : List ℕ) : Type 0 where
   pub done : Written old at (replicate n 0) i now
@@ -31,7 +26,7 @@ clearing-none old at n room =
 module _ {old : List ℕ} {at n i : ℕ} {now : List ℕ} (h : Clearing old at n i now) where
   pub clearing-more : i < n → Clearing old at n (i + 1) (set now (at + i) 0)
   clearing-more l =
-      let done : Written old at (replicate n 0) (i + 1) (set now (at + i) 0) = written-more (h .done) 0 (omega (arith, length-replicate {A = ℕ} n 0)) (getD-replicate n i 0 l) in
+      let done : Written old at (replicate n 0) (i + 1) (set now (at + i) 0) = written-more (h .done) 0 (omega (arith, length-replicate {A = ℕ} n 0)) (sym (getD-replicate n i 0 0 l)) in
       record { done = done; part = omega arith; room = h .room; long = done .long }
 
   pub clearing-end : n ≤ i → now ≡ put old at (replicate n 0)

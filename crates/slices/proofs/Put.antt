@@ -1,12 +1,12 @@
 -- Words put into a list: how long it stays, what stands where, one word more at either end, and one part after another.
-use Prim.Native.Nat.{ℕ, suc, _+_, _-_, _≤_, _<_}
+use Prim.Native.Nat.{ℕ, zero, suc, _+_, _-_, _≤_, _<_}
 use mathlib.Core.Path.{_≡_, sym, ap, ap₂, _∙_}
 use mathlib.Core.List.{List, _∷_, _++_, append-assoc, []}
 use native.Mathlib.Nat.{add-zero, zero-add}
 use native.Mathlib.Numerals.{add-one}
 use native.Mathlib.Omega.{arith}
 use lib.ListN.{length, take, drop, set, getD, length-append, length-take, length-drop, take-append-drop, List·getD-append}
-use lib.Seq.{length-take-le, drop-cons, drop-drop, drop-at, take-at, take-take, set-at, set-split, getD-take, getD-drop, getD-append-add, take-suc, append-snoc}
+use lib.Seq.{take-nil, length-take-le, drop-cons, drop-drop, drop-at, take-at, take-take, set-at, set-split, getD-take, getD-drop, getD-append-add, take-suc, append-snoc}
 use Rattle.slices.specs.Put.{put}
 
 pub put-none : (l : List ℕ) (at : ℕ) → put l at [] ≡ l
@@ -183,3 +183,12 @@ put-same l at n room =
 pub put-front : (l new : List ℕ) → put l 0 new ≡ new ++ drop (length new) l
 unfolding put
 put-front l new = ap (λ k. new ++ drop k l) (zero-add (length new))
+
+-- The front of a list without its own front.
+pub drop-take : (from m : ℕ) (l : List ℕ) → drop from (take m l) ≡ take (m - from) (drop from l)
+drop-take zero m l = let all : m - 0 ≡ m = omega arith in rw all
+drop-take (suc from) zero l = let none : 0 - suc from ≡ 0 = omega arith in rw none
+drop-take (suc from) (suc m) [] = sym (take-nil (suc m - suc from))
+drop-take (suc from) (suc m) (w ∷ l) =
+    let less : suc m - suc from ≡ m - from = omega arith in
+    drop-take from m l ∙ ap (λ k. take k (drop from l)) (sym less)

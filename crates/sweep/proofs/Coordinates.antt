@@ -6,7 +6,7 @@ use native.Mathlib.Omega.{arith}
 use lib.ListN.{length, getD}
 use Rattle.hypervolume.specs.Counts.{total, contribution}
 use Rattle.hypervolume.proofs.Dominance.{first, rest}
-use Rattle.hypervolume.proofs.Axes.{swapAt, total-swap, contribution-swap}
+use Rattle.hypervolume.proofs.Axes.{swap-at, total-swap, contribution-swap}
 use Rattle.sweep.specs.Points.{zip-points, Ascending}
 use native.Mathlib.Decide.{decLe}
 
@@ -44,8 +44,8 @@ points-at (x ∷ xs) (y ∷ ys) (z ∷ zs) zero e f l = refl
 points-at (x ∷ xs) (y ∷ ys) (z ∷ zs) (suc j) e f l = points-at xs ys zs j (omega arith) (omega arith) (omega arith)
 
 -- z is put first, so that law 7 applies to it
-points-turned : (xs ys zs : List ℕ) → map (swapAt 0) (map (swapAt 1) (zip-points xs ys zs)) ≡ zip-points zs xs ys
-unfolding zip-points swapAt first rest
+points-turned : (xs ys zs : List ℕ) → map (swap-at 0) (map (swap-at 1) (zip-points xs ys zs)) ≡ zip-points zs xs ys
+unfolding zip-points swap-at first rest
 points-turned [] ys [] = refl
 points-turned [] ys (z ∷ zs) = refl
 points-turned (x ∷ xs) [] [] = refl
@@ -56,11 +56,11 @@ points-turned (x ∷ xs) (y ∷ ys) (z ∷ zs) = ap (λ l. (z ∷ x ∷ y ∷ []
 pub total-turned : (rx ry rz : ℕ) (xs ys zs : List ℕ) → total (rz ∷ rx ∷ ry ∷ []) (zip-points zs xs ys) ≡ total (rx ∷ ry ∷ rz ∷ []) (zip-points xs ys zs)
 total-turned rx ry rz xs ys zs =
     rw (← (points-turned xs ys zs))
-    (total-swap [] (ry ∷ []) rx rz (map (swapAt 1) (zip-points xs ys zs)) ∙ total-swap (rx ∷ []) [] ry rz (zip-points xs ys zs))
+    (total-swap [] (ry ∷ []) rx rz (map (swap-at 1) (zip-points xs ys zs)) ∙ total-swap (rx ∷ []) [] ry rz (zip-points xs ys zs))
 
 pub contribution-turned : (rx ry rz : ℕ) (xs ys zs : List ℕ) (x y z : ℕ) → contribution (rz ∷ rx ∷ ry ∷ []) (zip-points zs xs ys) (z ∷ x ∷ y ∷ []) ≡ contribution (rx ∷ ry ∷ rz ∷ []) (zip-points xs ys zs) (x ∷ y ∷ z ∷ [])
-unfolding swapAt first rest
+unfolding swap-at first rest
 contribution-turned rx ry rz xs ys zs x y z =
     rw (← (points-turned xs ys zs))
-    (contribution-swap [] (ry ∷ []) rx rz (map (swapAt 1) (zip-points xs ys zs)) (x ∷ z ∷ y ∷ [])
+    (contribution-swap [] (ry ∷ []) rx rz (map (swap-at 1) (zip-points xs ys zs)) (x ∷ z ∷ y ∷ [])
     ∙ contribution-swap (rx ∷ []) [] ry rz (zip-points xs ys zs) (x ∷ y ∷ z ∷ []))

@@ -6,7 +6,7 @@ use card::Loaded;
 use hypervolume::Point;
 ghost use mathlib.Core.Path.{_≡_};
 ghost use mathlib.Core.List.{_∷_, []};
-ghost use Rattle.calls.specs.Lent.{start, insert, remove, least, reduce, joint, gain-answer, share, audit, trial-of, shape-of, Reduced};
+ghost use Rattle.calls.specs.Lent.{start, insert, remove, least, reduce, joint, gain-answer, share, audit, trial-of, shape-of, MeetsOutcome};
 ghost use Rattle.card.specs.Card.{load};
 ghost use Rattle.card.specs.Check.{check};
 ghost use Rattle.reports.specs.Report.{report, reported};
@@ -41,7 +41,7 @@ pub extern "C" fn ta_least(words: &[u64]) -> LeastAnswer
 
 #[no_mangle]
 pub extern "C" fn ta_reduce(words: &mut [u64], k: u64, log: &mut [u64]) -> Answer
-    ensures { λ r. ⌜ Reduced (reduce (now (words .entry)) k (now (log .entry))) r (now (words .exit)) (now (log .exit)) ⌝ }
+    ensures { λ r. ⌜ MeetsOutcome (reduce (now (words .entry)) k (now (log .entry))) r (now (words .exit)) (now (log .exit)) ⌝ }
 {
     removal::reduce(words, k, log)
 }

@@ -19,16 +19,16 @@ use Rattle.ask.proofs.questions.Joints.{length-each}
 use Rattle.calls.proofs.Known.{count-rows}
 
 -- Each contribution equals its count: no pair of them differs.
-neither : (b c d : Bool) → c ≡ not d → both b c ≡ not (either (not b) d)
+agreeing : (b c d : Bool) → c ≡ not d → both b c ≡ not (either (not b) d)
 unfolding both either
-neither true c d e = e
-neither false c d e = refl
+agreeing true c d e = e
+agreeing false c d e = refl
 
 pub counted-pairs : (a : Archive) (rows : List Row)
     → rows-counted a rows ≡ not (some-pair (λ v m. not (eqb v m)) (column 4 rows) (map (λ t. contribution (reference-of a) (held-points a) t) (points (trials rows))))
 unfolding rows-counted some-pair column field-of record-words points trials
 counted-pairs a [] = refl
-counted-pairs a (r ∷ rows) = neither (eqb (r .kept) (contribution (reference-of a) (held-points a) (point (r .trial)))) _ _ (counted-pairs a rows)
+counted-pairs a (r ∷ rows) = agreeing (eqb (r .kept) (contribution (reference-of a) (held-points a) (point (r .trial)))) _ _ (counted-pairs a rows)
 
 -- The counts in front of what the slice held.
 pub counts-front : (w before after : List ℕ) (r : ℕ) → CountedAll w before after r

@@ -2,10 +2,10 @@
 use Prim.Native.Nat.{ℕ, _+_, _*_, _≤_, min}
 use mathlib.Core.Path.{_≡_, refl, sym, ap, _∙_}
 use mathlib.Core.List.{List, _++_, append-assoc}
-use native.Mathlib.Nat.{zero-add}
 use native.Mathlib.Omega.{arith}
 use lib.ListN.{length, take, drop, length-append}
 use lib.Seq.{take-at, length-take-le}
+use Rattle.slices.proofs.Put.{put-front}
 use Rattle.slices.specs.Put.{put}
 use Rattle.words.specs.Layout.{word, extent, header, layout}
 use Rattle.words.proofs.Reading.{length-layout}
@@ -15,11 +15,6 @@ use Rattle.card.specs.Verdict.{Verdict, refusal, archive, judge, carried
 use Rattle.card.proofs.Judging.{loads}
 use Rattle.card.proofs.Verdicts as verdicts
 use Rattle.card.proofs.Theorems.{same-answer, not-zero}
-
--- Words put at the front.
-put-front : (w new : List ℕ) (end : ℕ) → length new ≡ end → put w 0 new ≡ new ++ drop end w
-unfolding put
-put-front w new end e = rw (zero-add, e)
 
 stays : (before : List ℕ) (v : Verdict) → (carried-out before v .answer .refusal ≡ 0 → ⊥) → before ≡ carried-out before v .words
 unfolding carried-out refused accepted
@@ -57,7 +52,7 @@ copied w p rest {after} (archive a) (verdicts.accepted f) sized none words long 
     let enough : end ≤ length p = omega (arith, ap length words, length-append (layout a) (drop end p)) in
     let front : take end (after ++ rest) ≡ layout a =
     (rw (words, append-assoc (layout a) (drop end p) rest) (take-at (layout a) (drop end p ++ rest) end laid)) in
-    record { within = rw here (omega arith); room = rw here (omega arith); whole = rw (here, front) (put-front w (layout a) end laid) }
+    record { within = rw here (omega arith); room = rw here (omega arith); whole = rw (here, front) (put-front w (layout a) ∙ ap (λ k. layout a ++ drop k w) laid) }
 
 -- A card read into words of its own, p, that are as many as those of the lent slice w, or enough for every capacity:
 -- what that has to do with loading into w.

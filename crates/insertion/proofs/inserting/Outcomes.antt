@@ -10,19 +10,19 @@ use Rattle.words.specs.Layout.{layout, read, behind}
 use Rattle.words.specs.Format.{guard, archive-rows}
 use Rattle.calls.specs.Calls.{insert-overruns, admission-rows, insert-rows, inserted}
 use Rattle.calls.specs.Lent.{Outcome, insert}
-use Rattle.calls.proofs.Answers.{rows-refused, rows-passed, leaves-refused, leaves-done, turned-down}
+use Rattle.calls.proofs.Answers.{rows-refused, rows-passed, leaves-refused, leaves-done, outcome-refused}
 use Rattle.insertion.proofs.inserting.Admitting.{admitted, admission-same}
 
 -- The three ways out of `insert`.
 pub insert-refused : (w : List ℕ) (t : Trial) (r : ℕ) → r ≡ archive-rows w 0 → (r ≡ 0 → ⊥) → (r ≡ insert w t .refusal) × (w ≡ insert w t .words)
 unfolding insert
 insert-refused w t r e n =
-    turned-down (insert w t) w [] r (leaves-refused w [] _ r _ _ _ (rows-refused w r (insert-rows (read w) t) e n) n)
+    outcome-refused (insert w t) w [] r (leaves-refused w [] _ r _ _ _ (rows-refused w r (insert-rows (read w) t) e n) n)
 
 pub insert-turned : (w : List ℕ) (t : Trial) (r : ℕ) → archive-rows w 0 ≡ 0 → r ≡ admission-rows (read w) t 0 → (r ≡ 0 → ⊥) → (r ≡ insert w t .refusal) × (w ≡ insert w t .words)
 unfolding insert insert-rows
 insert-turned w t r p e n =
-    turned-down (insert w t) w [] r
+    outcome-refused (insert w t) w [] r
     (leaves-refused w [] _ r _ _ _
     (rows-passed w _ p ∙ admission-same (read w) t _ (λ z. n (e ∙ z)) ∙ sym e) n)
 
@@ -37,7 +37,7 @@ insert-put w left t r p a e l = go (insert-overruns (read w) t) refl e l
 
     go : (b : Bool) → insert-overruns (read w) t ≡ b → r ≡ guard b 13 0 → left ≡ pick b w (layout (inserted (read w) t) ++ behind w) → (r ≡ insert w t .refusal) × (left ≡ insert w t .words)
     go true q e l =
-        let o = turned-down (insert w t) w [] 13 (leaves-refused w [] _ 13 _ _ _ (rows true q) (λ z. omega arith)) in
+        let o = outcome-refused (insert w t) w [] 13 (leaves-refused w [] _ 13 _ _ _ (rows true q) (λ z. omega arith)) in
         (e ∙ o .0, l ∙ o .1)
     go false q e l =
         let o = leaves-done w [] (archive-rows w (insert-rows (read w) t)) 0 (layout (inserted (read w) t) ++ behind w) [] (rows false q) in

@@ -1,4 +1,4 @@
--- Insertion stored: contributions lowered, the new record entered, the header written.
+-- Insertion insertion-stored: contributions lowered, the new record entered, the header written.
 use Prim.Native.Nat.{ℕ, suc, _+_, _*_, _≤_, _<_}
 use mathlib.Core.Path.{_≡_, refl, sym, ap, ap₂, _∙_}
 use mathlib.Core.Bool.{true, false}
@@ -74,12 +74,12 @@ insert-stored w w₁ w₂ w₃ vs t h l lower e₁ e₂ e₃ =
     Laid.stored w h w₂ w₃ (inserted a t) (word w 0 + 1) 0 refl grown (omega arith) (omega arith)
     (second ∙ ap (put w 8) (sym (append-nil (records new)))) e₃
 
-pub stored : (w w₁ w₂ w₃ kept : List ℕ) (t : Trial) (g : ℕ) → InsertReady w t g kept
+pub insertion-stored : (w w₁ w₂ w₃ kept : List ℕ) (t : Trial) (g : ℕ) → InsertReady w t g kept
     → w₁ ≡ put w 8 (records (rekept (rows-before w (word w 0)) kept))
     → w₂ ≡ put w₁ 8 (records (place (λ r. r .trial) (record { trial = t; kept = g }) (rows-before w₁ (word w 0))))
     → w₃ ≡ set (set w₂ 0 (word w 0 + 1)) 5 (word w 5 + g)
     → w₃ ≡ layout (inserted (read w) t) ++ behind w
-stored w w₁ w₂ w₃ kept t g h e₁ e₂ e₃ =
+insertion-stored w w₁ w₂ w₃ kept t g h e₁ e₂ e₃ =
     insert-stored w w₁ w₂ w₃ kept t (passed w (h .passes)) (h .free)
     (ap (rekept (read w .rows)) (h .values) ∙ lowered-rows (read w) t (read w .rows)) e₁
     (e₂ ∙ ap (λ k. put w₁ 8 (records (place (λ r. r .trial) (record { trial = t; kept = k }) (rows-before w₁ (word w 0))))) (h .gained))

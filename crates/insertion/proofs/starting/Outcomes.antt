@@ -16,14 +16,14 @@ use Rattle.words.specs.Layout.{extent, layout, header, records, header-words}
 use Rattle.words.specs.Format.{shape-allowed}
 use Rattle.calls.specs.Calls.{empty}
 use Rattle.calls.specs.Lent.{Outcome, start, start-rows}
-use Rattle.calls.proofs.Answers.{guard-yes, guard-no, leaves-refused, leaves-done, turned-down}
+use Rattle.calls.proofs.Answers.{guard-yes, guard-no, leaves-refused, leaves-done, outcome-refused}
 
 -- Start.
 pub start-shape : (w : List ℕ) (s : Shape) (t : Bool) → t ≡ shape-allowed s → t ≡ false → (_≡_ {A = ℕ} 4 (start w s .refusal)) × (w ≡ start w s .words)
 unfolding start start-rows not
 start-shape w s t e f =
     let row : start-rows w s ≡ 4 = guard-yes (not (shape-allowed s)) 4 _ (ap not (sym e ∙ f)) in
-    turned-down (start w s) w [] 4 (leaves-refused w [] _ 4 _ _ _ row (λ z. omega arith))
+    outcome-refused (start w s) w [] 4 (leaves-refused w [] _ 4 _ _ _ row (λ z. omega arith))
 
 pub start-short : (w : List ℕ) (s : Shape) (t : Bool) (end : ℕ) → t ≡ shape-allowed s → t ≡ true → end ≡ 8 + 5 * s .capacity → length w < end → (_≡_ {A = ℕ} 1 (start w s .refusal)) × (w ≡ start w s .words)
 unfolding start start-rows not extent
@@ -31,7 +31,7 @@ start-short w s t end e f g l =
     let row : start-rows w s ≡ 1 =
     guard-no (not (shape-allowed s)) 4 _ (ap not (sym e ∙ f))
     ∙ guard-yes (ltb (length w) (8 + 5 * s .capacity)) 1 _ (ap (ltb (length w)) (sym g) ∙ lt-ltb (length w) end l) in
-    turned-down (start w s) w [] 1 (leaves-refused w [] _ 1 _ _ _ row (λ z. omega arith))
+    outcome-refused (start w s) w [] 1 (leaves-refused w [] _ 1 _ _ _ row (λ z. omega arith))
 
 pub start-done : (w w₁ w₂ : List ℕ) (s : Shape) (t : Bool) (end : ℕ) → t ≡ shape-allowed s → t ≡ true → end ≡ 8 + 5 * s .capacity → end ≤ length w
     → w₁ ≡ put w 0 (replicate end 0)

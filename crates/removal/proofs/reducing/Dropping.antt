@@ -76,7 +76,7 @@ length-notes (suc i) a =
     omega arith
 
 -- The loop of drops: i of them are made.
-pub record Thinning (w₀ log₀ : List ℕ) (n : ℕ) (w log : List ℕ) (i : ℕ) : Type 0 where
+pub record DropsMade (w₀ log₀ : List ℕ) (n : ℕ) (w log : List ℕ) (i : ℕ) : Type 0 where
   pub part : i ≤ n
   pub now-is : w ≡ layout (after-drops i (read w₀)) ++ behind w₀
   pub noted : log ≡ put log₀ 0 (notes i (read w₀))
@@ -86,9 +86,9 @@ pub record Thinning (w₀ log₀ : List ℕ) (n : ℕ) (w log : List ℕ) (i : �
   pub long : length w ≡ length w₀
   pub log-long : length log ≡ length log₀
 
-pub thinning-none : (w log : List ℕ) (n : ℕ) → archive-rows w 0 ≡ 0 → IsCounted (read w) → Thinning w log n w log 0
+pub drops-made-none : (w log : List ℕ) (n : ℕ) → archive-rows w 0 ≡ 0 → IsCounted (read w) → DropsMade w log n w log 0
 unfolding after-drops notes
-thinning-none w log n p c =
+drops-made-none w log n p c =
     let size : length (read w .rows) ≡ word w 0 = count-rows w in
     record {
       part = omega arith;
@@ -102,15 +102,15 @@ thinning-none w log n p c =
     }
 
 -- What the words hold in the loop.
-pub record Thinned (w₀ w : List ℕ) (i : ℕ) : Type 0 where
+pub record WordsDropped (w₀ w : List ℕ) (i : ℕ) : Type 0 where
   pub holds : read w ≡ after-drops i (read w₀)
   pub rest : behind w ≡ behind w₀
   pub passes : archive-rows w 0 ≡ 0
   pub counted : IsCounted (read w)
   pub many : word w 0 + i ≡ word w₀ 0
 
-pub thinned : {w₀ log₀ : List ℕ} {n : ℕ} {w log : List ℕ} {i : ℕ} → Thinning w₀ log₀ n w log i → Thinned w₀ w i
-thinned {w₀} {log₀} {n} {w} {log} {i} h =
+pub words-dropped : {w₀ log₀ : List ℕ} {n : ℕ} {w log : List ℕ} {i : ℕ} → DropsMade w₀ log₀ n w log i → WordsDropped w₀ w i
+words-dropped {w₀} {log₀} {n} {w} {log} {i} h =
     let a = after-drops i (read w₀) in
     let holds : read w ≡ a = ap read (h .now-is) ∙ read-layout a (behind w₀) in
     let size : word w 0 ≡ length (a .rows) = sym (count-rows w) ∙ ap (λ (x : Archive). length (x .rows)) holds in
@@ -123,12 +123,12 @@ thinned {w₀} {log₀} {n} {w} {log} {i} h =
       many = omega arith;
     }
 
-pub thinning-more : {w₀ log₀ : List ℕ} {n : ℕ} {w log : List ℕ} {i : ℕ} (w′ log′ : List ℕ) → Thinning w₀ log₀ n w log i → i < n → n ≤ word w₀ 0
+pub drops-made-more : {w₀ log₀ : List ℕ} {n : ℕ} {w log : List ℕ} {i : ℕ} (w′ log′ : List ℕ) → DropsMade w₀ log₀ n w log i → i < n → n ≤ word w₀ 0
     → w′ ≡ layout (dropped (read w)) ++ behind w → log′ ≡ put log (2 * i) (note (read w)) → 2 * n ≤ length log₀
-    → length w′ ≡ length w → length log′ ≡ length log → Thinning w₀ log₀ n w′ log′ (i + 1)
-thinning-more {w₀} {log₀} {n} {w} {log} {i} w′ log′ h l most ew el fits lw ll =
+    → length w′ ≡ length w → length log′ ≡ length log → DropsMade w₀ log₀ n w′ log′ (i + 1)
+drops-made-more {w₀} {log₀} {n} {w} {log} {i} w′ log′ h l most ew el fits lw ll =
     let a = after-drops i (read w₀) in
-    let t = thinned h in
+    let t = words-dropped h in
     let left : length (a .rows) + i ≡ word w₀ 0 = h .left in
     let keeps : DropKeeps a = drop-keeps a (h .sound) (h .counted) (omega arith) in
     let next : after-drops (i + 1) (read w₀) ≡ dropped a = ap (λ k. after-drops k (read w₀)) (add-one i) ∙ drops-more i (read w₀) in
@@ -151,7 +151,7 @@ thinning-more {w₀} {log₀} {n} {w} {log} {i} w′ log′ h l most ew el fits 
       log-long = ll ∙ h .log-long;
     }
 
-pub thinning-end : {w₀ log₀ : List ℕ} {n : ℕ} {w log : List ℕ} {i : ℕ} → Thinning w₀ log₀ n w log i → n ≤ i → (w ≡ layout (after-drops n (read w₀)) ++ behind w₀) × (log ≡ put log₀ 0 (notes n (read w₀)))
-thinning-end {w₀} {log₀} {n} {w} {log} {i} h l =
+pub drops-made-end : {w₀ log₀ : List ℕ} {n : ℕ} {w log : List ℕ} {i : ℕ} → DropsMade w₀ log₀ n w log i → n ≤ i → (w ≡ layout (after-drops n (read w₀)) ++ behind w₀) × (log ≡ put log₀ 0 (notes n (read w₀)))
+drops-made-end {w₀} {log₀} {n} {w} {log} {i} h l =
     let e : i ≡ n = (let part : i ≤ n = h .part in omega arith) in
     (h .now-is ∙ ap (λ k. layout (after-drops k (read w₀)) ++ behind w₀) e, h .noted ∙ ap (λ k. put log₀ 0 (notes k (read w₀))) e)

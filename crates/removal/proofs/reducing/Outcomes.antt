@@ -9,11 +9,11 @@ use Rattle.calls.specs.declared.Answer.{Answer}
 use Rattle.words.specs.Layout.{word, layout, read, behind}
 use Rattle.words.specs.Format.{archive-rows}
 use Rattle.calls.specs.Calls.{after-drops, notes, reduce-rows}
-use Rattle.calls.specs.Lent.{Outcome, Reduced, reduce}
+use Rattle.calls.specs.Lent.{Outcome, MeetsOutcome, reduce}
 use Rattle.calls.proofs.Known.{count-rows}
 use Rattle.calls.proofs.Answers.{rows-refused, rows-passed, leaves-refused, leaves-done}
 
-refused-all : (o : Outcome) (w log : List ℕ) (r : ℕ) (answer : Answer) → o ≡ record { refusal = r; value = 0; words = w; log = log } → answer ≡ record { refusal = r; value = 0 } → Reduced o answer w log
+refused-all : (o : Outcome) (w log : List ℕ) (r : ℕ) (answer : Answer) → o ≡ record { refusal = r; value = 0; words = w; log = log } → answer ≡ record { refusal = r; value = 0 } → MeetsOutcome o answer w log
 refused-all o w log r answer e is =
     record {
       answered = is ∙ ap (λ (x : Outcome). record { refusal = x .refusal; value = x .value }) (sym e);
@@ -21,21 +21,21 @@ refused-all o w log r answer e is =
       noted = ap (λ (x : Outcome). x .log) (sym e);
     }
 
-pub reduce-refused : (w log : List ℕ) (k r : ℕ) (answer : Answer) → r ≡ archive-rows w 0 → (r ≡ 0 → ⊥) → answer ≡ record { refusal = r; value = 0 } → Reduced (reduce w k log) answer w log
+pub reduce-refused : (w log : List ℕ) (k r : ℕ) (answer : Answer) → r ≡ archive-rows w 0 → (r ≡ 0 → ⊥) → answer ≡ record { refusal = r; value = 0 } → MeetsOutcome (reduce w k log) answer w log
 unfolding reduce
 reduce-refused w log k r answer e f =
     refused-all (reduce w k log) w log r answer (leaves-refused w log _ r _ _ _ (rows-refused w r (reduce-rows (read w) k (length log)) e f) f)
 
-pub reduce-turned : (w log : List ℕ) (k r : ℕ) (answer : Answer) → archive-rows w 0 ≡ 0 → r ≡ reduce-rows (read w) k (length log) → (r ≡ 0 → ⊥) → answer ≡ record { refusal = r; value = 0 } → Reduced (reduce w k log) answer w log
+pub reduce-turned : (w log : List ℕ) (k r : ℕ) (answer : Answer) → archive-rows w 0 ≡ 0 → r ≡ reduce-rows (read w) k (length log) → (r ≡ 0 → ⊥) → answer ≡ record { refusal = r; value = 0 } → MeetsOutcome (reduce w k log) answer w log
 unfolding reduce
 reduce-turned w log k r answer p e f =
     refused-all (reduce w k log) w log r answer (leaves-refused w log _ r _ _ _ (rows-passed w _ p ∙ sym e) f)
 
-pub reduce-done : (w log w′ log′ : List ℕ) (k drops : ℕ) (answer : Answer) → archive-rows w 0 ≡ 0 → reduce-rows (read w) k (length log) ≡ 0 → drops ≡ word w 0 - k
+pub reduce-dropped : (w log w′ log′ : List ℕ) (k drops : ℕ) (answer : Answer) → archive-rows w 0 ≡ 0 → reduce-rows (read w) k (length log) ≡ 0 → drops ≡ word w 0 - k
     → (w′ ≡ layout (after-drops drops (read w)) ++ behind w) × (log′ ≡ put log 0 (notes drops (read w)))
-    → answer ≡ record { refusal = 0; value = drops } → Reduced (reduce w k log) answer w′ log′
+    → answer ≡ record { refusal = 0; value = drops } → MeetsOutcome (reduce w k log) answer w′ log′
 unfolding reduce
-reduce-done w log w′ log′ k drops answer p e d out is =
+reduce-dropped w log w′ log′ k drops answer p e d out is =
     let many : drops ≡ length (read w .rows) - k = d ∙ ap (λ n. n - k) (sym (count-rows w)) in
     let o = leaves-done w log _ (length (read w .rows) - k) (layout (after-drops (length (read w .rows) - k) (read w)) ++ behind w) (notes (length (read w .rows) - k) (read w)) (rows-passed w _ p ∙ e) in
     record {

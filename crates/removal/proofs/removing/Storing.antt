@@ -92,12 +92,12 @@ remove-stored w w₁ w₂ w₃ vs number k m h s l out raise e₁ e₂ e₃ =
     Laid.stored w h w₂ w₃ (removed a number) m 1 refl (ap length gone ∙ many) (omega arith) (omega arith)
     (second ∙ ap (λ x. put w 8 (records x ++ replicate 5 0)) (sym gone)) e₃
 
-pub struck-out : (w w₁ w₂ w₃ kept : List ℕ) (k loss n m : ℕ) → RemoveReady w k loss kept → n ≡ word w 0 → m ≡ n - 1
+pub removal-stored : (w w₁ w₂ w₃ kept : List ℕ) (k loss n m : ℕ) → RemoveReady w k loss kept → n ≡ word w 0 → m ≡ n - 1
     → w₁ ≡ put w 8 (records (leave-out k (rows-before w n)) ++ replicate 5 0)
     → w₂ ≡ put w₁ 8 (records (rekept (rows-before w₁ m) kept))
     → w₃ ≡ set (set w₂ 0 m) 5 (word w 5 - loss)
     → w₃ ≡ layout (removed (read w) (number-at w k)) ++ behind w
-struck-out w w₁ w₂ w₃ kept k loss n m h en em e₁ e₂ e₃ =
+removal-stored w w₁ w₂ w₃ kept k loss n m h en em e₁ e₂ e₃ =
     let rows = leave-out k (read w .rows) in
     let a = without (read w) (number-at w k) in
     let out = removing w k (h .passes) (h .inside) in

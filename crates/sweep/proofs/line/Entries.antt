@@ -10,7 +10,7 @@ use lib.Seq.{take-take, take-nil}
 use borrow.Author.Tests.{le-leb}
 use Rattle.slices.specs.Choices.{both}
 use Rattle.hypervolume.specs.Cells.{dominates}
-use Rattle.hypervolume.proofs.Dominance.{first, rest, atMost, atMost-dominates}
+use Rattle.hypervolume.proofs.Dominance.{first, rest, at-most, atMost-dominates}
 use Rattle.sweep.specs.Line.{index-of, over, over-by, AlikeAt}
 use Rattle.sweep.specs.Entries.{Below}
 
@@ -27,7 +27,7 @@ alike-same e f = record { many = ap (λ k. min k 2) e; whose = λ t l. f t }
 
 -- A point that is at most another on both axes dominates what that one dominates.
 pub covers-further : (x y u v : ℕ) (c : List ℕ) → x ≤ u → y ≤ v → dominates (u ∷ v ∷ []) c ≡ true → dominates (x ∷ y ∷ []) c ≡ true
-unfolding atMost both first rest
+unfolding at-most both first rest
 covers-further x y u v c l m d =
     atMost-dominates (x ∷ y ∷ []) (u ∷ v ∷ []) c (rw (le-leb x u l, le-leb y v m)) d
 

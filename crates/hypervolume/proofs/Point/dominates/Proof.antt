@@ -1,12 +1,12 @@
 -- `Point::dominates` meets its contract. The invariant: the axes left decide.
 use Prim.Native.Nat.{_-_}
 use borrow.Author.Needs.{needs}
-use Rattle.hypervolume.proofs.Points.{Passed, passed-none, passed-more, passed-stop, passed-end}
+use Rattle.hypervolume.proofs.Points.{AxesPassed, passed-none, passed-more, passed-stop, passed-end}
 use Rattle.hypervolume.proofs.Point.dominates.Statement.{statement}
 use Rattle.hypervolume.proofs.Point.dominates.Tie as tie
 
 abbrev Inv-loop : tie.InvT-loop
-Inv-loop self cell axis₀ axis = Passed 3 (self .at) (cell .at) axis
+Inv-loop self cell axis₀ axis = AxesPassed 3 (self .at) (cell .at) axis
 
 abbrev μ-loop : tie.MeasureT-loop
 μ-loop self cell axis₀ axis = 3 - axis

@@ -1,4 +1,4 @@
--- `put_in` meets its contract: refused by row 13, or stored.
+-- `put_in` meets its contract: refused by row 13, or insertion-stored.
 use mathlib.Core.Path.{sym}
 use native.Mathlib.Omega.{arith}
 use lib.Seq.{length-take-le}
@@ -7,7 +7,7 @@ use borrow.Author.Tests.{not-true, not-false}
 use Rattle.calls.proofs.Known.{known}
 use Rattle.insertion.proofs.inserting.Admitting.{admitted}
 use Rattle.insertion.proofs.inserting.Storing.{overruns, fits-box, storing}
-use Rattle.calls.proofs.Answers.{judged-13, judged-done}
+use Rattle.calls.proofs.Answers.{row-13-given, row-13-passed}
 use Rattle.insertion.proofs.inserting.put_in.Statement.{statement}
 use Rattle.insertion.proofs.inserting.put_in.Tie as tie
 
@@ -24,7 +24,7 @@ same-length : tie.Need-same-length
 same-length c = search needs
 
 returns : tie.Need-returns
-returns c = judged-13 _ _ _ (overruns (c .before .before .before .lowered .ensures) (not-true _ (c .if1 .taken)))
+returns c = row-13-given _ _ _ (overruns (c .before .before .before .lowered .ensures) (not-true _ (c .if1 .taken)))
 
 array-share-prefix-kept : tie.Need-array-share-prefix-kept
 array-share-prefix-kept c = omega (arith, known (c .before .before .before .before .before .before .before .before .before .args .w .now) (c .before .before .before .before .before .before .before .before .before .pre .0), c .before .before .before .before .lowered .kept)
@@ -39,7 +39,7 @@ same-length-2 : tie.Need-same-length-2
 same-length-2 c = search needs
 
 returns-2 : tie.Need-returns-2
-returns-2 c = judged-done _ _ _ _ (fits-box (c .before .before .before .before .before .before .before .before .lowered .ensures) (not-false _ (c .before .before .before .before .before .if1 .left))) (c .before .before .store .ensures)
+returns-2 c = row-13-passed _ _ _ _ (fits-box (c .before .before .before .before .before .before .before .before .lowered .ensures) (not-false _ (c .before .before .before .before .before .if1 .left))) (c .before .before .store .ensures)
 
 pub put-in-spec : {M : Type 1} → statement M
 put-in-spec =

@@ -3,7 +3,7 @@ use mathlib.Core.Path.{refl}
 use native.Mathlib.Omega.{arith}
 use lib.ListN.{length-set}
 use Rattle.calls.proofs.Known.{known}
-use Rattle.insertion.proofs.inserting.Storing.{storing-long, storing-fits, stored}
+use Rattle.insertion.proofs.inserting.Storing.{storing-long, storing-fits, insertion-stored}
 use Rattle.insertion.proofs.inserting.store.Statement.{statement}
 use Rattle.insertion.proofs.inserting.store.Tie as tie
 
@@ -35,7 +35,7 @@ same-length : tie.Need-same-length
 same-length c = simp length-set (omega (arith, c .before .before .before .before .before .before .keep .kept .0, c .before .before .enter .kept .0))
 
 returns : tie.Need-returns
-returns c = stored _ _ _ _ _ _ _ (c .before .before .before .before .before .before .before .before .before .before .before .before .pre) (c .before .before .before .before .before .before .keep .ensures) (c .before .before .enter .ensures) refl
+returns c = insertion-stored _ _ _ _ _ _ _ (c .before .before .before .before .before .before .before .before .before .before .before .before .pre) (c .before .before .before .before .before .before .keep .ensures) (c .before .before .enter .ensures) refl
 
 pub store-spec : {M : Type 1} → statement M
 store-spec =

@@ -1,18 +1,18 @@
 -- `gather` meets its contract: after i turns the first i of every fifth word are written.
 use Prim.Native.Nat.{_-_}
 use native.Mathlib.Omega.{arith}
-use Rattle.records.proofs.strides.Gathering.{Gathering, gathering-none, gathering-more, gathering-end}
+use Rattle.records.proofs.strides.Gathered.{Gathered, gathered-none, gathered-more, gathered-end}
 use Rattle.records.proofs.strides.gather.Statement.{statement}
 use Rattle.records.proofs.strides.gather.Tie as tie
 
 abbrev Inv-loop : tie.InvT-loop
-Inv-loop w first n to₀ at i₀ to i = Gathering w first n to₀ at to i
+Inv-loop w first n to₀ at i₀ to i = Gathered w first n to₀ at to i
 
 abbrev μ-loop : tie.MeasureT-loop
 μ-loop w first n to₀ at i₀ to i = n - i
 
 loop-holds : tie.Need-loop-holds Inv-loop μ-loop
-loop-holds c = gathering-none _ _ _ _ _ (c .pre .1)
+loop-holds c = gathered-none _ _ _ _ _ (c .pre .1)
 
 mul-to : tie.Need-mul-to Inv-loop μ-loop
 mul-to c = omega arith
@@ -42,13 +42,13 @@ loop-less : tie.Need-loop-less Inv-loop μ-loop
 loop-less c = omega arith
 
 loop-again : tie.Need-loop-again Inv-loop μ-loop
-loop-again c = gathering-more (c .before .before .loop .inv) (c .before .loop-test .taken)
+loop-again c = gathered-more (c .before .before .loop .inv) (c .before .loop-test .taken)
 
 same-length : tie.Need-same-length Inv-loop μ-loop
 same-length c = c .before .loop .inv .long
 
 returns : tie.Need-returns Inv-loop μ-loop
-returns c = gathering-end (c .before .loop .inv) (c .loop-test .left)
+returns c = gathered-end (c .before .loop .inv) (c .loop-test .left)
 
 pub gather-spec : {M : Type 1} → statement M
 gather-spec =

@@ -3,7 +3,7 @@ use mathlib.Core.Path.{refl, sym, _∙_}
 use native.Mathlib.Omega.{arith}
 use Rattle.calls.proofs.Known.{known}
 use Rattle.removal.proofs.reducing.Rows.{reducible}
-use Rattle.removal.proofs.reducing.Outcomes.{reduce-refused, reduce-turned, reduce-done}
+use Rattle.removal.proofs.reducing.Outcomes.{reduce-refused, reduce-turned, reduce-dropped}
 use borrow.Author.Needs.{needs}
 use Rattle.removal.proofs.reducing.reduce.Statement.{statement}
 use Rattle.removal.proofs.reducing.reduce.Tie as tie
@@ -56,7 +56,7 @@ same-length-4 c = search needs
 
 returns-3 : tie.Need-returns-3
 returns-3 c =
-    reduce-done (c .before .before .before .before .before .before .before .before .before .before .before .before .before .before .before .before .before .args .w .now) _ _ _ _ _ _ (sym (c .before .before .before .before .before .before .before .before .before .before .before .before .before .refusal .ensures) ∙ c .before .before .before .before .before .before .before .before .before .before .before .before .if1 .left)
+    reduce-dropped (c .before .before .before .before .before .before .before .before .before .before .before .before .before .before .before .before .before .args .w .now) _ _ _ _ _ _ (sym (c .before .before .before .before .before .before .before .before .before .before .before .before .before .refusal .ensures) ∙ c .before .before .before .before .before .before .before .before .before .before .before .before .if1 .left)
     (sym (c .before .before .before .before .before .before .before .before .before .before .reduce-rows .ensures) ∙ c .before .before .before .before .before .before .before .before .before .if2 .left) refl (c .before .before .before .before .before .drop-all .ensures) (c .done .ensures)
 
 pub reduce-spec : {M : Type 1} → statement M

@@ -4,7 +4,7 @@ use native.Mathlib.Omega.{arith}
 use lib.ListN.{length-set}
 use borrow.Author.Needs.{needs}
 use Rattle.calls.proofs.Known.{known}
-use Rattle.removal.proofs.removing.Storing.{striking-long, struck-out}
+use Rattle.removal.proofs.removing.Storing.{striking-long, removal-stored}
 use Rattle.removal.proofs.removing.store.Statement.{statement}
 use Rattle.removal.proofs.removing.store.Tie as tie
 
@@ -36,7 +36,7 @@ same-length : tie.Need-same-length
 same-length c = simp length-set (omega (arith, c .before .before .before .before .before .before .strike .kept .0, c .before .before .keep .kept .0))
 
 returns : tie.Need-returns
-returns c = struck-out (c .before .before .before .before .before .before .before .before .before .before .before .before .args .w .now) _ _ _ _ _ _ _ _ (c .before .before .before .before .before .before .before .before .before .before .before .before .pre) refl refl (c .before .before .before .before .before .before .strike .ensures) (c .before .before .keep .ensures) refl
+returns c = removal-stored (c .before .before .before .before .before .before .before .before .before .before .before .before .args .w .now) _ _ _ _ _ _ _ _ (c .before .before .before .before .before .before .before .before .before .before .before .before .pre) refl refl (c .before .before .before .before .before .before .strike .ensures) (c .before .before .keep .ensures) refl
 
 pub store-spec : {M : Type 1} → statement M
 store-spec =

@@ -5,7 +5,7 @@ use lib.Seq.{length-take-le}
 use borrow.Author.Needs.{needs}
 use borrow.Author.Tests.{not-true, not-false}
 use Rattle.calls.proofs.Known.{known}
-use Rattle.calls.proofs.Answers.{judged-13, judged-done}
+use Rattle.calls.proofs.Answers.{row-13-given, row-13-passed}
 use Rattle.removal.proofs.removing.Storing.{overruns, fits-box, striking}
 use Rattle.removal.proofs.removing.take_out.Statement.{statement}
 use Rattle.removal.proofs.removing.take_out.Tie as tie
@@ -29,7 +29,7 @@ same-length : tie.Need-same-length
 same-length c = search needs
 
 returns : tie.Need-returns
-returns c = judged-13 _ _ _ (overruns (c .before .before .before .raised .ensures) (not-true _ (c .if1 .taken)))
+returns c = row-13-given _ _ _ (overruns (c .before .before .before .raised .ensures) (not-true _ (c .if1 .taken)))
 
 array-share-prefix-kept : tie.Need-array-share-prefix-kept
 array-share-prefix-kept c = omega (arith, known (c .before .before .before .before .before .before .before .before .before .before .before .args .w .now) (c .before .before .before .before .before .before .before .before .before .before .before .pre .0), c .before .before .before .before .raised .kept)
@@ -44,7 +44,7 @@ same-length-2 : tie.Need-same-length-2
 same-length-2 c = search needs
 
 returns-2 : tie.Need-returns-2
-returns-2 c = judged-done _ _ _ _ (fits-box (c .before .before .before .before .before .before .before .before .raised .ensures) (not-false _ (c .before .before .before .before .before .if1 .left))) (c .before .before .store .ensures)
+returns-2 c = row-13-passed _ _ _ _ (fits-box (c .before .before .before .before .before .before .before .before .raised .ensures) (not-false _ (c .before .before .before .before .before .if1 .left))) (c .before .before .store .ensures)
 
 pub take-out-spec : {M : Type 1} → statement M
 take-out-spec =

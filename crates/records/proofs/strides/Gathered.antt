@@ -19,7 +19,7 @@ fifths-at (suc n) w (suc i) l =
     ∙ sym (getD-drop 5 w (5 * i) 0)
     ∙ fifths-at n (drop 5 w) i (omega arith)
 
-pub record Gathering (w : List ℕ) (first n : ℕ) (old : List ℕ) (at : ℕ) (now : List ℕ) (i : ℕ) : Type 0 where
+pub record Gathered (w : List ℕ) (first n : ℕ) (old : List ℕ) (at : ℕ) (now : List ℕ) (i : ℕ) : Type 0 where
   pub part : i ≤ n
   pub room : at + n ≤ length old
   pub long : length now ≡ length old
@@ -29,8 +29,8 @@ module _ (w : List ℕ) (first n : ℕ) where
   many : length (fifths n (drop first w)) ≡ n
   many = length-fifths n (drop first w)
 
-  pub gathering-none : (old : List ℕ) (at : ℕ) → at + n ≤ length old → Gathering w first n old at old 0
-  gathering-none old at room =
+  pub gathered-none : (old : List ℕ) (at : ℕ) → at + n ≤ length old → Gathered w first n old at old 0
+  gathered-none old at room =
       record {
         part = omega arith;
         room = room;
@@ -38,12 +38,12 @@ module _ (w : List ℕ) (first n : ℕ) where
         done = written-none old at (fifths n (drop first w)) (omega (arith, many));
       }
 
-module _ {w : List ℕ} {first n : ℕ} {old : List ℕ} {at : ℕ} {now : List ℕ} {i : ℕ} (h : Gathering w first n old at now i) where
-  pub gathering-more : i < n → Gathering w first n old at (set now (at + i) (getD w (first + 5 * i) 0)) (i + 1)
-  gathering-more l =
+module _ {w : List ℕ} {first n : ℕ} {old : List ℕ} {at : ℕ} {now : List ℕ} {i : ℕ} (h : Gathered w first n old at now i) where
+  pub gathered-more : i < n → Gathered w first n old at (set now (at + i) (getD w (first + 5 * i) 0)) (i + 1)
+  gathered-more l =
       let done : Written old at (fifths n (drop first w)) (i + 1) (set now (at + i) (getD w (first + 5 * i) 0)) =
       written-more (h .done) _ (omega (arith, many w first n)) (sym (getD-drop first w (5 * i) 0) ∙ fifths-at n (drop first w) i l) in
       record { part = omega arith; room = h .room; long = done .long; done = done }
 
-  pub gathering-end : n ≤ i → now ≡ put old at (fifths n (drop first w))
-  gathering-end l = written-end (h .done) (omega (arith, many w first n))
+  pub gathered-end : n ≤ i → now ≡ put old at (fifths n (drop first w))
+  gathered-end l = written-end (h .done) (omega (arith, many w first n))
