@@ -1,5 +1,6 @@
 // The header, written in place.
 use crate::rows::Shape;
+use slices::copy;
 ghost use mathlib.Core.Path.{_≡_};
 ghost use Prim.Native.Nat.{_≤_};
 ghost use lib.ListN.{length};
@@ -12,12 +13,6 @@ pub fn put_header(w: &mut [u64], count: u64, s: Shape, total: u64)
     requires { ⌜ 8 ≤ length (now w) ⌝ }
     ensures { λ r. ⌜ now (w .exit) ≡ put (now (w .entry)) 0 (header-words count (as-shape s) total) ⌝ }
 {
-    w[0] = count;
-    w[1] = s.capacity;
-    w[2] = s.rx;
-    w[3] = s.ry;
-    w[4] = s.rz;
-    w[5] = total;
-    w[6] = 0;
-    w[7] = 0;
+    let header = [count, s.capacity, s.rx, s.ry, s.rz, total, 0, 0];
+    copy(&header, w, 0);
 }
