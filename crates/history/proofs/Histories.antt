@@ -15,7 +15,7 @@ use Rattle.words.proofs.Passed.{guard-none, Sound}
 use Rattle.calls.specs.Calls.{empty}
 use Rattle.calls.specs.Lent.{leaves, start-rows, start}
 use Rattle.calls.proofs.Counted.{empty-counted}
-use Rattle.calls.proofs.Lent.{leaves-refusal, leaves-done}
+use Rattle.calls.proofs.Lent.{leaves-refusal, leaves-unrefused}
 use Rattle.history.specs.Book.{Book, book-turn, opened}
 use Rattle.history.specs.History.{Call, on-words, words-after, run-words, run-answers, request, run-book, book-answers, sorted, shape-of-book, fresh-archive, fresh, Agrees}
 use Rattle.history.proofs.Steps.{Holds, Agree, fresh-length, holds-length, step}
@@ -74,7 +74,7 @@ started before s e =
           record {
             shape = unfold shape-of-book opened in refl;
             sound = rw (fresh-start s) (empty-sound s (not-false _ (shaped .0)));
-            words = ap (λ o. o .words) (leaves-done before [] (start-rows before s) 0 _ [] e) ∙ unfold leaves fresh in rw (fresh-start s);
+            words = ap (λ o. o .words) (leaves-unrefused before [] (start-rows before s) 0 _ [] e) ∙ unfold leaves fresh in rw (fresh-start s);
           };
     }
 
