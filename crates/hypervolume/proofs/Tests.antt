@@ -42,12 +42,6 @@ pub holds-small : (t : Bool) {n : ℕ} → n ≡ holds t → n ≤ 1
 holds-small t e = omega (arith, holds-le-one t)
 
 -- a test that is implied by another counts at most as often
-pub both-le-left : (s t : Bool) → holds (both s t) ≤ holds s
-unfolding both holds
-both-le-left true true = omega arith
-both-le-left true false = omega arith
-both-le-left false t = omega arith
-
 pub both-le-right : (s t : Bool) → holds (both s t) ≤ holds t
 unfolding both holds
 both-le-right true t = omega arith

@@ -1,4 +1,4 @@
--- Laws of both, either and pick.
+-- Laws of both and either.
 use mathlib.Core.Path.{_≡_, refl}
 use mathlib.Core.Bool.{Bool, true, false, not, true≢false}
 use Rattle.slices.specs.Choices.{both, either, pick}
@@ -54,11 +54,3 @@ pub not-both : (s t : Bool) → not (both s t) ≡ either (not s) (not t)
 unfolding both either
 not-both true t = refl
 not-both false t = refl
-
-pub pick-true : {A : Type 0} (t : Bool) (a b : A) → t ≡ true → pick t a b ≡ a
-unfolding pick
-pick-true t a b e = rw e
-
-pub pick-false : {A : Type 0} (t : Bool) (a b : A) → t ≡ false → pick t a b ≡ b
-unfolding pick
-pick-false t a b e = rw e

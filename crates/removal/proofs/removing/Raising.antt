@@ -127,9 +127,6 @@ module _ (w : List ℕ) (k : ℕ) (after : List ℕ) (r : ℕ) (p : archive-rows
 pub box-each : (vs us : List ℕ) (limit b : ℕ) → vs ≡ us → limit ≡ b → Each us b → Each vs limit
 box-each vs us limit b e f h i = rw (e, f) (h i)
 
-pub limit-each : (vs us : List ℕ) (b : ℕ) → vs ≡ us → b ≤ 1152921504606846976 → Each us b → Each vs 1152921504606846976
-limit-each vs us b e l h i = rw e (let m : getD us i 0 ≤ b = h i in omega arith)
-
 pub box-fits : (w : List ℕ) → archive-rows w 0 ≡ 0 → box-of (read w) ≤ 1152921504606846976
 unfolding read
 box-fits w p = known w p .box-small
