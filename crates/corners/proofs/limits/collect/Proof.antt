@@ -11,10 +11,10 @@ use Rattle.corners.proofs.limits.collect.Statement.{statement}
 use Rattle.corners.proofs.limits.collect.Tie as tie
 
 abbrev Inv-loop : tie.InvT-loop
-Inv-loop xs ys zs kx₀ ky₀ kz₀ places₀ out₀ limit ux uy uz m₀ i₀ kx ky kz places out m i = Gathering xs ys zs limit kx₀ ky₀ kz₀ places₀ out₀ ux uy uz kx ky kz places out m i
+Inv-loop xs ys zs kx₀ ky₀ kz₀ places₀ limit ux uy uz m₀ i₀ kx ky kz places m i = Gathering xs ys zs limit kx₀ ky₀ kz₀ places₀ ux uy uz kx ky kz places m i
 
 abbrev μ-loop : tie.MeasureT-loop
-μ-loop xs ys zs kx₀ ky₀ kz₀ places₀ out₀ limit ux uy uz m₀ i₀ kx ky kz places out m i = length xs - i
+μ-loop xs ys zs kx₀ ky₀ kz₀ places₀ limit ux uy uz m₀ i₀ kx ky kz places m i = length xs - i
 
 element-copy-out-ux : tie.Need-element-copy-out-ux Inv-loop μ-loop
 element-copy-out-ux c = search needs
@@ -41,7 +41,7 @@ length-limit : (c : tie.Start Inv-loop μ-loop) → length (c .args .t5) ≡ 3
 length-limit c = search needs
 
 loop-holds : tie.Need-loop-holds Inv-loop μ-loop
-loop-holds c = gathering-none _ (length-u (c .before .before .before .before .before .before .before .before .before .before .before)) (c .before .before .before .before .before .before .before .before .before .before .before .pre)
+loop-holds c = gathering-none _ (length-u (c .before .before .before .before .before .before .before .before .before .before)) (c .before .before .before .before .before .before .before .before .before .before .pre)
 
 mul-x : tie.Need-mul-x Inv-loop μ-loop
 mul-x c = search needs
@@ -65,13 +65,7 @@ array-read-if1 : tie.Need-array-read-if1 Inv-loop μ-loop
 array-read-if1 c = search needs
 
 abbrev start : tie.In-loop Inv-loop μ-loop → tie.Start Inv-loop μ-loop
-start c = c .before .before .before .before .before .before .before .before .before .before .before .before .before
-
-sub-clear : tie.Need-sub-clear Inv-loop μ-loop
-sub-clear c = search needs
-
-clear-requires : tie.Need-clear-requires Inv-loop μ-loop
-clear-requires c κs = search needs
+start c = c .before .before .before .before .before .before .before .before .before .before .before .before
 
 same-length : tie.Need-same-length Inv-loop μ-loop
 same-length c = search needs
@@ -85,21 +79,10 @@ same-length-3 c = search needs
 same-length-4 : tie.Need-same-length-4 Inv-loop μ-loop
 same-length-4 c = search needs
 
-same-length-5 : tie.Need-same-length-5 Inv-loop μ-loop
-same-length-5 c = search needs
-
 returns : tie.Need-returns Inv-loop μ-loop
 returns c =
-    let cleared = c .before .before in
-    let past = cleared .before .before in
-    let turn = past .before .before .before .before in
-    gathering-stop _ (length-u (start turn)) (length-limit (start turn)) (turn .before .loop .inv) (turn .loop-test .taken) (past .if1 .taken) (cleared .clear .ensures)
-
-mul-out : tie.Need-mul-out Inv-loop μ-loop
-mul-out c = search needs
-
-slice-write-out : tie.Need-slice-write-out Inv-loop μ-loop
-slice-write-out c = search needs
+    let turn = c .before .before .before .before in
+    gathering-stop _ (length-u (start turn)) (length-limit (start turn)) (turn .before .loop .inv) (turn .loop-test .taken) (c .if1 .taken)
 
 axes-requires : tie.Need-axes-requires Inv-loop μ-loop
 axes-requires c κs = search needs
@@ -171,6 +154,9 @@ loop-again-2 c =
     gathering-skip (turn .before .loop .inv) (turn .loop-test .taken)
     (axes-not _ _ _ _ (length-limit (start turn)) (c .before .axes .ensures) (c .if2 .left))
 
+same-length-5 : tie.Need-same-length-5 Inv-loop μ-loop
+same-length-5 c = search needs
+
 same-length-6 : tie.Need-same-length-6 Inv-loop μ-loop
 same-length-6 c = search needs
 
@@ -180,14 +166,8 @@ same-length-7 c = search needs
 same-length-8 : tie.Need-same-length-8 Inv-loop μ-loop
 same-length-8 c = search needs
 
-same-length-9 : tie.Need-same-length-9 Inv-loop μ-loop
-same-length-9 c = search needs
-
-same-length-10 : tie.Need-same-length-10 Inv-loop μ-loop
-same-length-10 c = search needs
-
 returns-2 : tie.Need-returns-2 Inv-loop μ-loop
-returns-2 c = gathering-end _ (length-u (c .before .before .before .before .before .before .before .before .before .before .before .before .before)) (c .before .loop .inv) (c .loop-test .left)
+returns-2 c = gathering-end _ (length-u (c .before .before .before .before .before .before .before .before .before .before .before .before)) (c .before .loop .inv) (c .loop-test .left)
 
 pub collect-spec : {M : Type 1} → statement M
 collect-spec =
@@ -209,16 +189,11 @@ collect-spec =
     mul-z
     shared-slice-read-z
     array-read-if1
-    sub-clear
-    clear-requires
     same-length
     same-length-2
     same-length-3
     same-length-4
-    same-length-5
     returns
-    mul-out
-    slice-write-out
     axes-requires
     larger-requires
     mul-kx
@@ -239,9 +214,8 @@ collect-spec =
     add-i-2
     loop-less-2
     loop-again-2
+    same-length-5
     same-length-6
     same-length-7
     same-length-8
-    same-length-9
-    same-length-10
     returns-2)
