@@ -1,5 +1,5 @@
 -- `collect`: the corners within a limit.
-use Prim.Native.Nat.{ℕ, suc, _+_, _≤_, _<_, max}
+use Prim.Native.Nat.{ℕ, suc, _+_, _*_, _≤_, _<_, max}
 use mathlib.Core.Path.{_≡_, refl, sym, ap, _∙_}
 use mathlib.Core.Bool.{Bool, true, false}
 use mathlib.Core.List.{List, _∷_, _++_, append-nil, []}
@@ -9,6 +9,8 @@ use native.Mathlib.Omega.{arith}
 use lib.ListN.{length, take, drop, getD, set, length-drop, length-set, length-map, take-append-drop}
 use lib.Seq.{take-suc, take-suc-set, take-all, length-take-le, getD-drop, getD-set-same, getD-set-other}
 use lib.Dec.{leb}
+use mir.Syntax.{w16, w64}
+use mir.Val.{Fits}
 use borrow.Author.Tests.{lt-leb}
 use Rattle.slices.specs.Choices.{both, pick}
 use Rattle.sweep.proofs.Front.{getD-mapped}
@@ -82,6 +84,18 @@ corners-on-more u src places ks m i v h p q e k l = go (decLe (suc k) m)
         let last : k ≡ m = omega arith in
         rw (last, getD-set-same ks m v 0 q, getD-set-same places m i 0 p) e
 
+below-scaled : {k : ℕ} → k < 512 → Fits w64 (k * 8)
+below-scaled l = omega arith
+
+below-place-scaled : {k : ℕ} → k < 512 → Fits w64 (k * 2)
+below-place-scaled l = omega arith
+
+below-place : {k : ℕ} → k < 512 → Fits w16 k
+below-place l = omega arith
+
+below-next : {k : ℕ} → k < 512 → Fits w64 (k + 1)
+below-next l = omega arith
+
 -- A turn.
 module _ {xs ys zs limit kx₀ ky₀ kz₀ places₀ : List ℕ} {ux uy uz : ℕ} {kx ky kz places : List ℕ} {m i : ℕ} (h : Gathering xs ys zs limit kx₀ ky₀ kz₀ places₀ ux uy uz kx ky kz places m i) (l : i < length xs) where
   abbrev p : List ℕ
@@ -99,6 +113,49 @@ module _ {xs ys zs limit kx₀ ky₀ kz₀ places₀ : List ℕ} {ux uy uz : ℕ
   next : take (i + 1) (corners u xs ys zs) ≡ take i (corners u xs ys zs) ++ (join u p ∷ [])
   next =
       rw (add-one i, take-suc (corners u xs ys zs) i [] (omega (arith, corners-length u (h .asked .same-length))), here)
+
+  -- What the steps of a turn ask of its numbers.
+  i-small : i < 512
+  i-small = omega (arith, h .asked .few)
+
+  m-small : m < 512
+  m-small = omega (arith, i-small, old .few)
+
+  pub i-scaled : Fits w64 (i * 8)
+  i-scaled = below-scaled i-small
+
+  pub i-place : Fits w16 i
+  i-place = below-place i-small
+
+  pub i-next : Fits w64 (i + 1)
+  i-next = below-next i-small
+
+  pub m-scaled : Fits w64 (m * 8)
+  m-scaled = below-scaled m-small
+
+  pub m-place-scaled : Fits w64 (m * 2)
+  m-place-scaled = below-place-scaled m-small
+
+  pub m-next : Fits w64 (m + 1)
+  m-next = below-next m-small
+
+  pub ys-here : i < length ys
+  ys-here = omega (arith, h .asked .same-length .ys-many)
+
+  pub zs-here : i < length zs
+  zs-here = omega (arith, h .asked .same-length .zs-many)
+
+  pub places-room : m < length places
+  places-room = omega (arith, h .places-long, h .asked .places-room, old .few)
+
+  pub kx-room : m < length kx
+  kx-room = omega (arith, h .kx-long, h .asked .kx-room, old .few)
+
+  pub ky-room : m < length ky
+  ky-room = omega (arith, h .ky-long, h .asked .ky-room, old .few)
+
+  pub kz-room : m < length kz
+  kz-room = omega (arith, h .kz-long, h .asked .kz-room, old .few)
 
   tested : dominates (join u p) limit ≡ dominates p limit
   tested = corner-within u p limit (h .asked .above)
@@ -161,18 +218,6 @@ module _ {xs ys zs limit kx₀ ky₀ kz₀ places₀ : List ℕ} {ux uy uz : ℕ
             };
       }
     where
-      places-room : m < length places
-      places-room = omega (arith, h .places-long, h .asked .places-room, old .few)
-
-      kx-room : m < length kx
-      kx-room = omega (arith, h .kx-long, h .asked .kx-room, old .few)
-
-      ky-room : m < length ky
-      ky-room = omega (arith, h .ky-long, h .asked .ky-room, old .few)
-
-      kz-room : m < length kz
-      kz-room = omega (arith, h .kz-long, h .asked .kz-room, old .few)
-
       all : zip-points (take (m + 1) (set kx m vx)) (take (m + 1) (set ky m vy)) (take (m + 1) (set kz m vz)) ≡ passing (λ t. dominates t limit) (take (i + 1) (corners u xs ys zs))
       all =
           let kx-many : length (take m kx) ≡ m = length-take-le m kx (omega arith) in
