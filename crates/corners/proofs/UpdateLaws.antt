@@ -16,7 +16,7 @@ use Rattle.hypervolume.specs.Cells.{dominates, join, edges}
 use Rattle.hypervolume.specs.Counts.{total, contribution, gain, contributions, joints}
 use Rattle.hypervolume.proofs.Counting.{joint-corner, gain-edges, Twice}
 use Rattle.sweep.specs.Points.{SameLength, zip-points, Small, Ascending, Ready}
-use Rattle.corners.specs.Limits.{Limits, passing, corners, CornersOn, Stands, Collected, Spreading, spread}
+use Rattle.corners.specs.Limits.{Limits, passing, corners, Collecting, CornersOn, Stands, Collected, Spreading, spread}
 use Rattle.sweep.proofs.Coordinates.{ascending-at, points-length, points-at, three}
 use Rattle.sweep.proofs.Front.{getD-mapped, front-then}
 use Rattle.corners.proofs.Passing.{passing-total, passing-contribution, failing-contribution, limit-twice}
@@ -45,6 +45,26 @@ corners-on-ascending u src places ks m h e inside rising k l =
     ascending-at src h (getD places k 0) (getD places (suc k) 0) (omega (arith, rising k before)) (inside (suc k) before) in
     rw (getD-take m ks k 0 (omega arith), getD-take m ks (suc k) 0 before, e k (omega arith), e (suc k) before)
     (omega arith)
+
+-- What collecting the corners asks.
+pub ready-same-length : {xs ys zs r out : List ℕ} → Ready xs ys zs r out → SameLength xs ys zs
+ready-same-length h = record { ys-many = h .ys-many; zs-many = h .zs-many }
+
+pub ready-collecting : {xs ys zs r out u limit : List ℕ} → Ready xs ys zs r out → Limits (zip-points xs ys zs) u limit → Collecting xs ys zs u limit (replicate 512 0) (replicate 512 0) (replicate 512 0) (replicate 512 0)
+ready-collecting {xs} h e =
+    record {
+      few = h .few;
+      same-length = ready-same-length h;
+      rising = h .rising;
+      above = e .above;
+      kx-room = room;
+      ky-room = room;
+      kz-room = room;
+      places-room = room;
+    }
+  where
+    room : length xs ≤ length (replicate {A = ℕ} 512 0)
+    room = omega (arith, length-replicate {A = ℕ} 512 0, h .few)
 
 -- All that is known once the corners have been collected.
 pub record Prepared (u xs ys zs r out limit kx ky kz places : List ℕ) (m : ℕ) : Type 0 where
@@ -90,7 +110,7 @@ module _ {u xs ys zs r out limit kx ky kz places : List ℕ} {m : ℕ} (h : Prep
   prepared-room = omega (arith, h .ready .room)
 
   same-length : SameLength xs ys zs
-  same-length = record { ys-many = h .ready .ys-many; zs-many = h .ready .zs-many }
+  same-length = ready-same-length (h .ready)
 
   pub prepared-ready : {counts : List ℕ} → length counts ≡ 512 → Ready (take m kx) (take m ky) (take m kz) r counts
   prepared-ready e =
@@ -243,11 +263,14 @@ module _ {u xs ys zs r out limit kx ky kz places : List ℕ} {m : ℕ} (h : Prep
           rw (← (corners-joints r u (zip-points xs ys zs)))
           (length-map all (λ t. contribution r all t) ∙ corners-length u same-length)
 
+      pub prepared-long : {end : List ℕ} → end ≡ spread left (take m places) (take m counts) → length end ≡ length out
+      prepared-long q = ap length q ∙ spread-length left (take m places) (take m counts) ∙ left-long
+
       pub prepared-joints : {end : List ℕ} → end ≡ spread left (take m places) (take m counts) → end ≡ joints r (zip-points xs ys zs) u ++ drop (length xs) out
       prepared-joints {end} q =
           rw (← joints-many)
           (front-then end (joints r (zip-points xs ys zs) u) out
-          (rw q (spread-length left (take m places) (take m counts) ∙ left-long))
+          (prepared-long q)
           (omega (arith, joints-many, h .ready .room))
           (λ j l. front j (omega (arith, joints-many)))
           (λ j l. back j (omega (arith, joints-many))))

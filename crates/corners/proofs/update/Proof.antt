@@ -5,13 +5,13 @@ use mathlib.Core.Path.{_≡_, sym}
 use mathlib.Core.List.{List}
 use lib.ListN.{length, replicate, length-replicate}
 use denote.Ref.{now}
-use Rattle.corners.proofs.UpdateLaws.{Prepared, kx-many, ky-many, kz-many, places-many, prepared-fits, prepared-room, lent-many, prepared-ready, prepared-spreading, prepared-enough, prepared-gain, prepared-joints}
+use Rattle.corners.proofs.UpdateLaws.{ready-same-length, ready-collecting, prepared-long, Prepared, kx-many, ky-many, kz-many, places-many, prepared-fits, prepared-room, lent-many, prepared-ready, prepared-spreading, prepared-enough, prepared-gain, prepared-joints}
 use borrow.Author.Needs.{needs}
 use Rattle.corners.proofs.update.Statement.{statement}
 use Rattle.corners.proofs.update.Tie as tie
 
 limits-requires : tie.Need-limits-requires
-limits-requires c κs = search needs
+limits-requires c κs = (ready-same-length (c .before .before .before .before .pre .0), c .before .before .before .before .pre .1)
 
 slice-aggregate-collect : tie.Need-slice-aggregate-collect
 slice-aggregate-collect c = search needs
@@ -26,7 +26,7 @@ slice-aggregate-collect-4 : tie.Need-slice-aggregate-collect-4
 slice-aggregate-collect-4 c = search needs
 
 collect-requires : tie.Need-collect-requires
-collect-requires c κs = search needs
+collect-requires c κs = ready-collecting (c .before .before .before .before .before .before .before .before .before .pre .0) (c .before .before .before .before .limits .ensures)
 
 length-u : (c : tie.Start) → length (c .args .u .at) ≡ 3
 length-u c = search needs
@@ -122,7 +122,9 @@ sub-result c =
     prepared-enough (prepared (swept .before .before .before .before .before)) (swept .sweep .ensures .0) (c .edges .ensures)
 
 same-length : tie.Need-same-length
-same-length c = search needs
+same-length c =
+    let swept = c .before .before .before .before .before .before .before .before .before .before .before .before in
+    prepared-long (prepared (swept .before .before .before .before .before)) (replicate 512 0) (swept .sweep .ensures .1) (c .before .before .before .before .before .before .before .before .before .clear .ensures) (c .before .before .before .spread .ensures)
 
 returns : tie.Need-returns
 returns c =
