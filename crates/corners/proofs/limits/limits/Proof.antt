@@ -1,7 +1,6 @@
 -- `limits` meets its contract. The invariant: the two least offers of the first i points on each axis, and their limits.
-use Prim.Native.Nat.{_-_, _≤_}
+use Prim.Native.Nat.{_-_}
 use mathlib.Core.Path.{_≡_}
-use native.Mathlib.Omega.{arith}
 use lib.ListN.{length}
 use lib.Dec.{lit<}
 use borrow.Author.Count.{falls}
