@@ -16,7 +16,7 @@ use Rattle.hypervolume.specs.Cells.{dominates, join, edges}
 use Rattle.hypervolume.specs.Counts.{total, contribution, gain, contributions, joints}
 use Rattle.hypervolume.proofs.Counting.{joint-corner, gain-edges, Twice}
 use Rattle.sweep.specs.Points.{SameLength, zip-points, Small, Ascending, Ready}
-use Rattle.corners.specs.Limits.{Limits, passing, corners, CornersOn, Stands, Collected, Spreading, spread}
+use Rattle.corners.specs.Limits.{Limits, passing, corners, Collecting, CornersOn, Stands, Collected, Spreading, spread}
 use Rattle.sweep.proofs.Coordinates.{ascending-at, points-length, points-at, three}
 use Rattle.sweep.proofs.Front.{getD-mapped, front-then}
 use Rattle.corners.proofs.Passing.{passing-total, passing-contribution, failing-contribution, limit-twice}
@@ -46,6 +46,26 @@ corners-on-ascending u src places ks m h e inside rising k l =
     rw (getD-take m ks k 0 (omega arith), getD-take m ks (suc k) 0 before, e k (omega arith), e (suc k) before)
     (omega arith)
 
+-- What collecting the corners asks.
+pub ready-same-length : {xs ys zs r out : List ℕ} → Ready xs ys zs r out → SameLength xs ys zs
+ready-same-length h = record { ys-many = h .ys-many; zs-many = h .zs-many }
+
+pub ready-collecting : {xs ys zs r out u limit : List ℕ} → Ready xs ys zs r out → Limits (zip-points xs ys zs) u limit → Collecting xs ys zs u limit (replicate 512 0) (replicate 512 0) (replicate 512 0) (replicate 512 0)
+ready-collecting {xs} h e =
+    record {
+      few = h .few;
+      same-length = ready-same-length h;
+      rising = h .rising;
+      above = e .above;
+      kx-room = room;
+      ky-room = room;
+      kz-room = room;
+      places-room = room;
+    }
+  where
+    room : length xs ≤ length (replicate {A = ℕ} 512 0)
+    room = omega (arith, length-replicate {A = ℕ} 512 0, h .few)
+
 -- All that is known once the corners have been collected.
 pub record Prepared (u xs ys zs r out limit kx ky kz places : List ℕ) (m : ℕ) : Type 0 where
   pub axes : length u ≡ 3
@@ -71,20 +91,26 @@ module _ {u xs ys zs r out limit kx ky kz places : List ℕ} {m : ℕ} (h : Prep
   few : m ≤ 512
   few = omega (arith, h .collected .few, h .ready .few)
 
-  kx-many : length (take m kx) ≡ m
-  kx-many = length-take-le m kx (omega (arith, few, h .kx-long))
+  pub prepared-fits : {n : ℕ} → n ≡ 512 → m ≤ n
+  prepared-fits e = omega (arith, few)
 
-  ky-many : length (take m ky) ≡ m
-  ky-many = length-take-le m ky (omega (arith, few, h .ky-long))
+  pub kx-many : length (take m kx) ≡ m
+  kx-many = length-take-le m kx (prepared-fits (h .kx-long))
 
-  kz-many : length (take m kz) ≡ m
-  kz-many = length-take-le m kz (omega (arith, few, h .kz-long))
+  pub ky-many : length (take m ky) ≡ m
+  ky-many = length-take-le m ky (prepared-fits (h .ky-long))
+
+  pub kz-many : length (take m kz) ≡ m
+  kz-many = length-take-le m kz (prepared-fits (h .kz-long))
 
   pub places-many : length (take m places) ≡ m
-  places-many = length-take-le m places (omega (arith, few, h .places-long))
+  places-many = length-take-le m places (prepared-fits (h .places-long))
+
+  pub prepared-room : 0 + length xs ≤ length out
+  prepared-room = omega (arith, h .ready .room)
 
   same-length : SameLength xs ys zs
-  same-length = record { ys-many = h .ready .ys-many; zs-many = h .ready .zs-many }
+  same-length = ready-same-length (h .ready)
 
   pub prepared-ready : {counts : List ℕ} → length counts ≡ 512 → Ready (take m kx) (take m ky) (take m kz) r counts
   prepared-ready e =
@@ -149,8 +175,8 @@ module _ {u xs ys zs r out limit kx ky kz places : List ℕ} {m : ℕ} (h : Prep
       (ap (λ v. join v (getD xs (getD places k 0) 0 ∷ getD ys (getD places k 0) 0 ∷ getD zs (getD places k 0) 0 ∷ [])) (three u (h .axes)))
       ∙ sym (corner-at u same-length (getD places k 0) (h .collected .inside k l))
 
-  -- What the sweep leaves, and the counts cleared before it.
-  module _ (blank : List ℕ) {counts left : List ℕ} (e : counts ≡ contributions r some ++ drop (length (take m kx)) blank) (f : left ≡ put out 0 (replicate (length xs) 0)) where
+  -- What the sweep leaves.
+  module _ (blank : List ℕ) {counts : List ℕ} (e : counts ≡ contributions r some ++ drop (length (take m kx)) blank) where
     counts-many : length (contributions r some) ≡ m
     unfolding contributions
     counts-many = length-map some (λ t. contribution r some t) ∙ some-many
@@ -165,84 +191,92 @@ module _ {u xs ys zs r out limit kx ky kz places : List ℕ} {m : ℕ} (h : Prep
         (getD-mapped (λ t. contribution r some t) [] 0 some k (omega (arith, some-many))
         ∙ rw (some-at k l, passing-all) (passing-contribution r test all left-out (getD all (getD places k 0) [])))
 
-    zeros-fit : 0 + length (replicate {A = ℕ} (length xs) 0) ≤ length out
-    zeros-fit = omega (arith, length-replicate {A = ℕ} (length xs) 0, h .ready .room)
+    pub lent-many : length (take m counts) ≡ m
+    lent-many = rw lent counts-many
 
-    left-long : length left ≡ length out
-    left-long = ap length f ∙ length-put out 0 (replicate (length xs) 0) zeros-fit
+    -- The counts cleared.
+    module _ {left : List ℕ} (f : left ≡ put out 0 (replicate (length xs) 0)) where
+      zeros-fit : 0 + length (replicate {A = ℕ} (length xs) 0) ≤ length out
+      zeros-fit = omega (arith, length-replicate {A = ℕ} (length xs) 0, h .ready .room)
 
-    left-zero : (j : ℕ) → j < length xs → getD left j 0 ≡ 0
-    left-zero j l =
-        rw (f, ← (zero-add j))
-        (put-inside out 0 (replicate (length xs) 0) zeros-fit j (omega (arith, length-replicate {A = ℕ} (length xs) 0))
-        ∙ getD-replicate (length xs) j 0 0 l)
+      left-long : length left ≡ length out
+      left-long = ap length f ∙ length-put out 0 (replicate (length xs) 0) zeros-fit
 
-    left-old : (j : ℕ) → length xs ≤ j → getD left j 0 ≡ getD out j 0
-    left-old j l =
-        rw f (put-behind out 0 (replicate (length xs) 0) zeros-fit j (omega (arith, length-replicate {A = ℕ} (length xs) 0)))
+      left-zero : (j : ℕ) → j < length xs → getD left j 0 ≡ 0
+      left-zero j l =
+          rw (f, ← (zero-add j))
+          (put-inside out 0 (replicate (length xs) 0) zeros-fit j (omega (arith, length-replicate {A = ℕ} (length xs) 0))
+          ∙ getD-replicate (length xs) j 0 0 l)
 
-    inside : (k : ℕ) → k < length (take m places) → getD (take m places) k 0 < length xs
-    inside k l =
-        let first : k < m = omega (arith, places-many) in
-        rw (getD-take m places k 0 first) (h .collected .inside k first)
+      left-old : (j : ℕ) → length xs ≤ j → getD left j 0 ≡ getD out j 0
+      left-old j l =
+          rw f (put-behind out 0 (replicate (length xs) 0) zeros-fit j (omega (arith, length-replicate {A = ℕ} (length xs) 0)))
 
-    pub prepared-spreading : Spreading (take m counts) (take m places) left
-    prepared-spreading =
-        record {
-          many = rw lent (counts-many ∙ sym places-many);
-          inside = λ k l. omega (arith, inside k l, left-long, h .ready .room);
-        }
+      inside : (k : ℕ) → k < length (take m places) → getD (take m places) k 0 < length xs
+      inside k l =
+          let first : k < m = omega (arith, places-many) in
+          rw (getD-take m places k 0 first) (h .collected .inside k first)
 
-    spreads : Due due left (take m places) (take m counts) (length xs)
-    spreads =
-        record {
-          room = omega (arith, left-long, h .ready .room);
-          many = prepared-spreading .many;
-          inside = inside;
-          right = right;
-          every = λ j l. every j l (test (getD all j [])) refl;
-        }
-      where
-        right : (k : ℕ) → k < length (take m places) → getD (take m counts) k 0 ≡ due (getD (take m places) k 0)
-        right k l =
-            let first : k < m = omega (arith, places-many) in
-            rw (getD-take m places k 0 first) (lent-at k first)
+      pub prepared-spreading : Spreading (take m counts) (take m places) left
+      prepared-spreading =
+          record {
+            many = lent-many ∙ sym places-many;
+            inside = λ k l. omega (arith, inside k l, left-long, h .ready .room);
+          }
 
-        every : (j : ℕ) → j < length xs → (b : Bool) → test (getD all j []) ≡ b → (getD left j 0 ≡ due j) ⊎ Stands (take m places) (length (take m places)) j
-        every j l true q =
-            let s = h .collected .every j l q in
-            inr
-            (record {
-              k = s .k;
-              within = omega (arith, s .within, places-many);
-              here = getD-take m places (s .k) 0 (s .within) ∙ s .here;
-            })
-        every j l false q =
-            inl (left-zero j l ∙ sym (failing-contribution r test all left-out j (omega (arith, corners-length u same-length)) q))
+      spreads : Due due left (take m places) (take m counts) (length xs)
+      spreads =
+          record {
+            room = omega (arith, left-long, h .ready .room);
+            many = prepared-spreading .many;
+            inside = inside;
+            right = right;
+            every = λ j l. every j l (test (getD all j [])) refl;
+          }
+        where
+          right : (k : ℕ) → k < length (take m places) → getD (take m counts) k 0 ≡ due (getD (take m places) k 0)
+          right k l =
+              let first : k < m = omega (arith, places-many) in
+              rw (getD-take m places k 0 first) (lent-at k first)
 
-    joints-at : (j : ℕ) → j < length xs → getD (joints r (zip-points xs ys zs) u) j 0 ≡ due j
-    unfolding contributions
-    joints-at j l =
-        rw (← (corners-joints r u (zip-points xs ys zs)))
-        (getD-mapped (λ t. contribution r all t) [] 0 all j (omega (arith, corners-length u same-length)))
+          every : (j : ℕ) → j < length xs → (b : Bool) → test (getD all j []) ≡ b → (getD left j 0 ≡ due j) ⊎ Stands (take m places) (length (take m places)) j
+          every j l true q =
+              let s = h .collected .every j l q in
+              inr
+              (record {
+                k = s .k;
+                within = omega (arith, s .within, places-many);
+                here = getD-take m places (s .k) 0 (s .within) ∙ s .here;
+              })
+          every j l false q =
+              inl (left-zero j l ∙ sym (failing-contribution r test all left-out j (omega (arith, corners-length u same-length)) q))
 
-    joints-many : length (joints r (zip-points xs ys zs) u) ≡ length xs
-    unfolding contributions
-    joints-many =
-        rw (← (corners-joints r u (zip-points xs ys zs)))
-        (length-map all (λ t. contribution r all t) ∙ corners-length u same-length)
+      joints-at : (j : ℕ) → j < length xs → getD (joints r (zip-points xs ys zs) u) j 0 ≡ due j
+      unfolding contributions
+      joints-at j l =
+          rw (← (corners-joints r u (zip-points xs ys zs)))
+          (getD-mapped (λ t. contribution r all t) [] 0 all j (omega (arith, corners-length u same-length)))
 
-    pub prepared-joints : {end : List ℕ} → end ≡ spread left (take m places) (take m counts) → end ≡ joints r (zip-points xs ys zs) u ++ drop (length xs) out
-    prepared-joints {end} q =
-        rw (← joints-many)
-        (front-then end (joints r (zip-points xs ys zs) u) out
-        (rw q (spread-length left (take m places) (take m counts) ∙ left-long))
-        (omega (arith, joints-many, h .ready .room))
-        (λ j l. front j (omega (arith, joints-many)))
-        (λ j l. back j (omega (arith, joints-many))))
-      where
-        front : (j : ℕ) → j < length xs → getD end j 0 ≡ getD (joints r (zip-points xs ys zs) u) j 0
-        front j l = rw (q, due-right due (length xs) left (take m places) (take m counts) spreads j l) (sym (joints-at j l))
+      joints-many : length (joints r (zip-points xs ys zs) u) ≡ length xs
+      unfolding contributions
+      joints-many =
+          rw (← (corners-joints r u (zip-points xs ys zs)))
+          (length-map all (λ t. contribution r all t) ∙ corners-length u same-length)
 
-        back : (j : ℕ) → length xs ≤ j → getD end j 0 ≡ getD out j 0
-        back j l = rw q (due-beyond due (length xs) left (take m places) (take m counts) spreads j l ∙ left-old j l)
+      pub prepared-long : {end : List ℕ} → end ≡ spread left (take m places) (take m counts) → length end ≡ length out
+      prepared-long q = ap length q ∙ spread-length left (take m places) (take m counts) ∙ left-long
+
+      pub prepared-joints : {end : List ℕ} → end ≡ spread left (take m places) (take m counts) → end ≡ joints r (zip-points xs ys zs) u ++ drop (length xs) out
+      prepared-joints {end} q =
+          rw (← joints-many)
+          (front-then end (joints r (zip-points xs ys zs) u) out
+          (prepared-long q)
+          (omega (arith, joints-many, h .ready .room))
+          (λ j l. front j (omega (arith, joints-many)))
+          (λ j l. back j (omega (arith, joints-many))))
+        where
+          front : (j : ℕ) → j < length xs → getD end j 0 ≡ getD (joints r (zip-points xs ys zs) u) j 0
+          front j l = rw (q, due-right due (length xs) left (take m places) (take m counts) spreads j l) (sym (joints-at j l))
+
+          back : (j : ℕ) → length xs ≤ j → getD end j 0 ≡ getD out j 0
+          back j l = rw q (due-beyond due (length xs) left (take m places) (take m counts) spreads j l ∙ left-old j l)

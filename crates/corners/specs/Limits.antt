@@ -42,7 +42,7 @@ abbrev pub corners : List ℕ → List ℕ → List ℕ → List ℕ → List (L
 corners u xs ys zs = map (join u) (zip-points xs ys zs)
 
 -- What collecting the corners within a limit asks: points in ascending order of z, and room for all.
-pub record Collecting (xs ys zs u limit kx ky kz places out : List ℕ) : Type 0 where
+pub record Collecting (xs ys zs u limit kx ky kz places : List ℕ) : Type 0 where
   pub few : length xs ≤ 512
   pub same-length : SameLength xs ys zs
   pub rising : Ascending zs
@@ -51,7 +51,6 @@ pub record Collecting (xs ys zs u limit kx ky kz places out : List ℕ) : Type 0
   pub ky-room : length xs ≤ length ky
   pub kz-room : length xs ≤ length kz
   pub places-room : length xs ≤ length places
-  pub out-room : length xs ≤ length out
 
 -- The first m of `ks` are the corners' coordinates on one axis, for the points at the first m places.
 abbrev pub CornersOn : ℕ → List ℕ → List ℕ → List ℕ → ℕ → Type 0

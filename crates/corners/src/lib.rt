@@ -28,20 +28,10 @@ pub fn update(
     let mut ky = [0u64; 512];
     let mut kz = [0u64; 512];
     let mut places = [0u16; 512];
-    let m = limits::collect(
-        xs,
-        ys,
-        zs,
-        u,
-        limit,
-        &mut kx,
-        &mut ky,
-        &mut kz,
-        &mut places,
-        out,
-    );
+    let m = limits::collect(xs, ys, zs, u, limit, &mut kx, &mut ky, &mut kz, &mut places);
     let mut counts = [0u64; 512];
     let covered = sweep::sweep(&kx[..m], &ky[..m], &kz[..m], reference, &mut counts);
+    slices::clear(out, 0, xs.len());
     limits::spread(&counts[..m], &places[..m], out);
     u.edges(reference) - covered
 }

@@ -4,10 +4,8 @@ use hypervolume::Point;
 use hypervolume::number::larger;
 ghost use mathlib.Core.Path.{_≡_};
 ghost use lib.Dec.{leb};
-ghost use Prim.Native.Nat.{_-_};
-ghost use lib.ListN.{length, replicate};
+ghost use lib.ListN.{length};
 ghost use Rattle.slices.specs.Choices.{both};
-ghost use Rattle.slices.specs.Put.{put};
 ghost use Rattle.hypervolume.specs.Cells.{holds};
 ghost use Rattle.sweep.specs.Points.{zip-points, SameLength, Small};
 ghost use Rattle.corners.specs.Limits.{axes-within, offer, two-with, Limits, Collecting, Collected, Spreading, spread};
@@ -109,8 +107,7 @@ pub fn limits(xs: &[u64], ys: &[u64], zs: &[u64], u: Point) -> [u64; 3]
 }
 
 // The corners within the limit, in their order: how many, their coordinates, and in `places` where their points stand.
-// Every count in `out` becomes 0, which is what the corners left out have. The points
-// ascend on z, so past the limit on z none is within. (A place takes 16 bits, to save stack.)
+// The points ascend on z, so past the limit on z none is within. (A place takes 16 bits, to save stack.)
 pub fn collect(
     xs: &[u64],
     ys: &[u64],
@@ -121,11 +118,9 @@ pub fn collect(
     ky: &mut [u64],
     kz: &mut [u64],
     places: &mut [u16],
-    out: &mut [u64],
 ) -> usize
-    requires { ⌜ Collecting (now xs) (now ys) (now zs) (u .at) limit (now kx) (now ky) (now kz) (now places) (now out) ⌝ }
-    ensures collected { λ r. ⌜ Collected (now (xs .entry)) (now (ys .entry)) (now (zs .entry)) (u .at) limit (length (now (xs .entry))) (now (kx .exit)) (now (ky .exit)) (now (kz .exit)) (now (places .exit)) r ⌝ }
-    ensures cleared { λ _. ⌜ now (out .exit) ≡ put (now (out .entry)) 0 (replicate (length (now (xs .entry))) 0) ⌝ }
+    requires { ⌜ Collecting (now xs) (now ys) (now zs) (u .at) limit (now kx) (now ky) (now kz) (now places) ⌝ }
+    ensures { λ r. ⌜ Collected (now (xs .entry)) (now (ys .entry)) (now (zs .entry)) (u .at) limit (length (now (xs .entry))) (now (kx .exit)) (now (ky .exit)) (now (kz .exit)) (now (places .exit)) r ⌝ }
 {
     let ux = u.at[0] as u64;
     let uy = u.at[1] as u64;
@@ -137,10 +132,8 @@ pub fn collect(
         let y = ys[i];
         let z = zs[i];
         if limit[2] < z {
-            slices::clear(out, i, xs.len() - i);
             return m;
         }
-        out[i] = 0;
         if axes(x, y, z, limit) == 3 {
             kx[m] = larger(ux, x);
             ky[m] = larger(uy, y);

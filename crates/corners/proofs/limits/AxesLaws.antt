@@ -4,6 +4,8 @@ use mathlib.Core.Path.{_≡_, refl, sym, ap, _∙_}
 use mathlib.Core.Bool.{Bool, true, false}
 use mathlib.Core.List.{List, _∷_, []}
 use native.Mathlib.Omega.{arith}
+use mir.Syntax.{w64}
+use mir.Val.{Fits}
 use lib.Dec.{leb, eqb}
 use lib.ListN.{length, getD}
 use borrow.Author.Tests.{eq-eqb, ne-eqb}
@@ -40,3 +42,6 @@ module _ (x y z : ℕ) (p : List ℕ) (e : length p ≡ 3) {n : ℕ} (f : n ≡ 
 
   pub axes-not : (n ≡ 3 → ⊥) → dominates (x ∷ y ∷ z ∷ []) p ≡ false
   axes-not g = sym (axes-dominates x y z p e) ∙ ne-eqb (axes-within x y z p) 3 (λ q. g (f ∙ q))
+
+pub axes-add : {m n : ℕ} → m ≤ 3 → n ≤ 3 → Fits w64 (m + n)
+axes-add l k = omega arith

@@ -1,20 +1,18 @@
 -- `collect`: the corners within a limit.
-use Prim.Native.Nat.{ℕ, suc, _+_, _-_, _≤_, _<_, max}
+use Prim.Native.Nat.{ℕ, suc, _+_, _*_, _≤_, _<_, max}
 use mathlib.Core.Path.{_≡_, refl, sym, ap, _∙_}
 use mathlib.Core.Bool.{Bool, true, false}
 use mathlib.Core.List.{List, _∷_, _++_, append-nil, []}
 use native.Mathlib.Decide.{decLe}
 use native.Mathlib.Numerals.{add-one}
 use native.Mathlib.Omega.{arith}
-use lib.ListN.{length, take, drop, getD, set, replicate, length-drop, length-set, length-map, length-replicate, take-append-drop, replicate-append-replicate}
-use lib.Seq.{take-suc, take-suc-set, take-all, take-at, length-take-le, getD-drop, getD-set-same, getD-set-other}
+use lib.ListN.{length, take, drop, getD, set, length-drop, length-set, length-map, take-append-drop}
+use lib.Seq.{take-suc, take-suc-set, take-all, length-take-le, getD-drop, getD-set-same, getD-set-other}
 use lib.Dec.{leb}
+use mir.Syntax.{w16, w64}
+use mir.Val.{Fits}
 use borrow.Author.Tests.{lt-leb}
 use Rattle.slices.specs.Choices.{both, pick}
-use Rattle.slices.specs.Put.{put}
-use Rattle.slices.proofs.Put.{put-then}
-use Rattle.slices.proofs.Moves.{Clearing, clearing-none, clearing-more, clearing-end}
-use native.Mathlib.Nat.{zero-add}
 use Rattle.sweep.proofs.Front.{getD-mapped}
 use Rattle.hypervolume.specs.Cells.{dominates, join}
 use Rattle.slices.proofs.Choices.{both-comm}
@@ -42,19 +40,18 @@ corner-at {xs} {ys} {zs} u a j l =
     ∙ ap (join u) (points-at xs ys zs j (a .ys-many) (a .zs-many) l)
 
 -- The loop. u is given by its coordinates.
-pub record Gathering (xs ys zs limit kx₀ ky₀ kz₀ places₀ out₀ : List ℕ) (ux uy uz : ℕ) (kx ky kz places out : List ℕ) (m i : ℕ) : Type 0 where
-  pub asked : Collecting xs ys zs (ux ∷ uy ∷ uz ∷ []) limit kx₀ ky₀ kz₀ places₀ out₀
+pub record Gathering (xs ys zs limit kx₀ ky₀ kz₀ places₀ : List ℕ) (ux uy uz : ℕ) (kx ky kz places : List ℕ) (m i : ℕ) : Type 0 where
+  pub asked : Collecting xs ys zs (ux ∷ uy ∷ uz ∷ []) limit kx₀ ky₀ kz₀ places₀
   pub within : i ≤ length xs
   pub kx-long : length kx ≡ length kx₀
   pub ky-long : length ky ≡ length ky₀
   pub kz-long : length kz ≡ length kz₀
   pub places-long : length places ≡ length places₀
-  pub cleared : Clearing out₀ 0 (length xs) i out
   pub collected : Collected xs ys zs (ux ∷ uy ∷ uz ∷ []) limit i kx ky kz places m
 
-pub gathering-none : {xs ys zs limit kx ky kz places out : List ℕ} (u : List ℕ) → length u ≡ 3 → Collecting xs ys zs u limit kx ky kz places out → Gathering xs ys zs limit kx ky kz places out (getD u 0 0) (getD u 1 0) (getD u 2 0) kx ky kz places out 0 0
+pub gathering-none : {xs ys zs limit kx ky kz places : List ℕ} (u : List ℕ) → length u ≡ 3 → Collecting xs ys zs u limit kx ky kz places → Gathering xs ys zs limit kx ky kz places (getD u 0 0) (getD u 1 0) (getD u 2 0) kx ky kz places 0 0
 unfolding zip-points passing
-gathering-none {xs} {out = out} u e h =
+gathering-none u e h =
     record {
       asked = rw (three u e) h;
       within = omega arith;
@@ -62,7 +59,6 @@ gathering-none {xs} {out = out} u e h =
       ky-long = refl;
       kz-long = refl;
       places-long = refl;
-      cleared = clearing-none out 0 (length xs) (omega (arith, h .out-room));
       collected =
           record {
             few = omega arith;
@@ -88,32 +84,20 @@ corners-on-more u src places ks m i v h p q e k l = go (decLe (suc k) m)
         let last : k ≡ m = omega arith in
         rw (last, getD-set-same ks m v 0 q, getD-set-same places m i 0 p) e
 
--- Clearing broken off, and all that is left cleared at once.
-clearing-rest : {old now now′ : List ℕ} {n i : ℕ} → Clearing old 0 n i now → now′ ≡ put now i (replicate (n - i) 0) → now′ ≡ put old 0 (replicate n 0)
-clearing-rest {old} {now} {now′} {n} {i} h e =
-    e
-    ∙ ap (λ l. put l i rest) (h .done .is)
-    ∙ ap (λ k. put (put old 0 first) k rest) (let start : i ≡ 0 + length first = omega (arith, first-long) in start)
-    ∙ put-then old 0 first rest (omega (arith, first-long, h .part, h .room))
-    ∙ ap (put old 0) (ap (λ f. f ++ rest) first-is ∙ whole)
-  where
-    first : List ℕ
-    first = take i (replicate n 0)
+below-scaled : {k : ℕ} → k < 512 → Fits w64 (k * 8)
+below-scaled l = omega arith
 
-    rest : List ℕ
-    rest = replicate (n - i) 0
+below-place-scaled : {k : ℕ} → k < 512 → Fits w64 (k * 2)
+below-place-scaled l = omega arith
 
-    whole : replicate i 0 ++ rest ≡ replicate n 0
-    whole = replicate-append-replicate i (n - i) 0 ∙ ap (λ k. replicate k 0) (let all : i + (n - i) ≡ n = omega (arith, h .part) in all)
+below-place : {k : ℕ} → k < 512 → Fits w16 k
+below-place l = omega arith
 
-    first-is : first ≡ replicate i 0
-    first-is = ap (take i) (sym whole) ∙ take-at (replicate i 0) rest i (length-replicate i 0)
-
-    first-long : length first ≡ i
-    first-long = ap length first-is ∙ length-replicate i 0
+below-next : {k : ℕ} → k < 512 → Fits w64 (k + 1)
+below-next l = omega arith
 
 -- A turn.
-module _ {xs ys zs limit kx₀ ky₀ kz₀ places₀ out₀ : List ℕ} {ux uy uz : ℕ} {kx ky kz places out : List ℕ} {m i : ℕ} (h : Gathering xs ys zs limit kx₀ ky₀ kz₀ places₀ out₀ ux uy uz kx ky kz places out m i) (l : i < length xs) where
+module _ {xs ys zs limit kx₀ ky₀ kz₀ places₀ : List ℕ} {ux uy uz : ℕ} {kx ky kz places : List ℕ} {m i : ℕ} (h : Gathering xs ys zs limit kx₀ ky₀ kz₀ places₀ ux uy uz kx ky kz places m i) (l : i < length xs) where
   abbrev p : List ℕ
   p = getD xs i 0 ∷ getD ys i 0 ∷ getD zs i 0 ∷ []
 
@@ -130,8 +114,48 @@ module _ {xs ys zs limit kx₀ ky₀ kz₀ places₀ out₀ : List ℕ} {ux uy u
   next =
       rw (add-one i, take-suc (corners u xs ys zs) i [] (omega (arith, corners-length u (h .asked .same-length))), here)
 
-  cleared-next : Clearing out₀ 0 (length xs) (i + 1) (set out i 0)
-  cleared-next = rw (zero-add i) at (clearing-more (h .cleared) l)
+  -- What the steps of a turn ask of its numbers.
+  i-small : i < 512
+  i-small = omega (arith, h .asked .few)
+
+  m-small : m < 512
+  m-small = omega (arith, i-small, old .few)
+
+  pub i-scaled : Fits w64 (i * 8)
+  i-scaled = below-scaled i-small
+
+  pub i-place : Fits w16 i
+  i-place = below-place i-small
+
+  pub i-next : Fits w64 (i + 1)
+  i-next = below-next i-small
+
+  pub m-scaled : Fits w64 (m * 8)
+  m-scaled = below-scaled m-small
+
+  pub m-place-scaled : Fits w64 (m * 2)
+  m-place-scaled = below-place-scaled m-small
+
+  pub m-next : Fits w64 (m + 1)
+  m-next = below-next m-small
+
+  pub ys-here : i < length ys
+  ys-here = omega (arith, h .asked .same-length .ys-many)
+
+  pub zs-here : i < length zs
+  zs-here = omega (arith, h .asked .same-length .zs-many)
+
+  pub places-room : m < length places
+  places-room = omega (arith, h .places-long, h .asked .places-room, old .few)
+
+  pub kx-room : m < length kx
+  kx-room = omega (arith, h .kx-long, h .asked .kx-room, old .few)
+
+  pub ky-room : m < length ky
+  ky-room = omega (arith, h .ky-long, h .asked .ky-room, old .few)
+
+  pub kz-room : m < length kz
+  kz-room = omega (arith, h .kz-long, h .asked .kz-room, old .few)
 
   tested : dominates (join u p) limit ≡ dominates p limit
   tested = corner-within u p limit (h .asked .above)
@@ -141,7 +165,7 @@ module _ {xs ys zs limit kx₀ ky₀ kz₀ places₀ out₀ : List ℕ} {ux uy u
   passing-next t e =
       rw (next, passing-append (λ t. dominates t limit) (take i (corners u xs ys zs)) (join u p ∷ []), tested, e)
 
-  pub gathering-skip : dominates p limit ≡ false → Gathering xs ys zs limit kx₀ ky₀ kz₀ places₀ out₀ ux uy uz kx ky kz places (set out i 0) m (i + 1)
+  pub gathering-skip : dominates p limit ≡ false → Gathering xs ys zs limit kx₀ ky₀ kz₀ places₀ ux uy uz kx ky kz places m (i + 1)
   unfolding pick
   gathering-skip e =
       record {
@@ -151,7 +175,6 @@ module _ {xs ys zs limit kx₀ ky₀ kz₀ places₀ out₀ : List ℕ} {ux uy u
         ky-long = h .ky-long;
         kz-long = h .kz-long;
         places-long = h .places-long;
-        cleared = cleared-next;
         collected =
             record {
               few = omega (arith, old .few);
@@ -172,7 +195,7 @@ module _ {xs ys zs limit kx₀ ky₀ kz₀ places₀ out₀ : List ℕ} {ux uy u
           let never : false ≡ true = sym e ∙ sym tested ∙ (rw (last, here) at d) in
           absurd (let z : _≡_ {A = ℕ} 0 1 = cc in omega arith)
 
-  pub gathering-more : {vx vy vz : ℕ} → dominates p limit ≡ true → vx ≡ max ux (getD xs i 0) → vy ≡ max uy (getD ys i 0) → vz ≡ max uz (getD zs i 0) → Gathering xs ys zs limit kx₀ ky₀ kz₀ places₀ out₀ ux uy uz (set kx m vx) (set ky m vy) (set kz m vz) (set places m i) (set out i 0) (m + 1) (i + 1)
+  pub gathering-more : {vx vy vz : ℕ} → dominates p limit ≡ true → vx ≡ max ux (getD xs i 0) → vy ≡ max uy (getD ys i 0) → vz ≡ max uz (getD zs i 0) → Gathering xs ys zs limit kx₀ ky₀ kz₀ places₀ ux uy uz (set kx m vx) (set ky m vy) (set kz m vz) (set places m i) (m + 1) (i + 1)
   unfolding join pick
   gathering-more {vx} {vy} {vz} e ex ey ez =
       record {
@@ -182,7 +205,6 @@ module _ {xs ys zs limit kx₀ ky₀ kz₀ places₀ out₀ : List ℕ} {ux uy u
         ky-long = length-set ky m vy ∙ h .ky-long;
         kz-long = length-set kz m vz ∙ h .kz-long;
         places-long = length-set places m i ∙ h .places-long;
-        cleared = cleared-next;
         collected =
             record {
               few = omega (arith, old .few);
@@ -196,18 +218,6 @@ module _ {xs ys zs limit kx₀ ky₀ kz₀ places₀ out₀ : List ℕ} {ux uy u
             };
       }
     where
-      places-room : m < length places
-      places-room = omega (arith, h .places-long, h .asked .places-room, old .few)
-
-      kx-room : m < length kx
-      kx-room = omega (arith, h .kx-long, h .asked .kx-room, old .few)
-
-      ky-room : m < length ky
-      ky-room = omega (arith, h .ky-long, h .asked .ky-room, old .few)
-
-      kz-room : m < length kz
-      kz-room = omega (arith, h .kz-long, h .asked .kz-room, old .few)
-
       all : zip-points (take (m + 1) (set kx m vx)) (take (m + 1) (set ky m vy)) (take (m + 1) (set kz m vz)) ≡ passing (λ t. dominates t limit) (take (i + 1) (corners u xs ys zs))
       all =
           let kx-many : length (take m kx) ≡ m = length-take-le m kx (omega arith) in
@@ -247,10 +257,10 @@ module _ {xs ys zs limit kx₀ ky₀ kz₀ places₀ out₀ : List ℕ} {ux uy u
             here = getD-set-same places m i 0 places-room ∙ omega arith;
           }
 
-pub gathering-end : {xs ys zs limit kx₀ ky₀ kz₀ places₀ out₀ kx ky kz places out : List ℕ} {m i : ℕ} (u : List ℕ) → length u ≡ 3 → Gathering xs ys zs limit kx₀ ky₀ kz₀ places₀ out₀ (getD u 0 0) (getD u 1 0) (getD u 2 0) kx ky kz places out m i → length xs ≤ i → Collected xs ys zs u limit (length xs) kx ky kz places m × (out ≡ put out₀ 0 (replicate (length xs) 0))
+pub gathering-end : {xs ys zs limit kx₀ ky₀ kz₀ places₀ kx ky kz places : List ℕ} {m i : ℕ} (u : List ℕ) → length u ≡ 3 → Gathering xs ys zs limit kx₀ ky₀ kz₀ places₀ (getD u 0 0) (getD u 1 0) (getD u 2 0) kx ky kz places m i → length xs ≤ i → Collected xs ys zs u limit (length xs) kx ky kz places m
 gathering-end {xs} {i = i} u e h l =
     let whole : i ≡ length xs = omega (arith, h .within) in
-    (rw (three u e, whole) at (h .collected), clearing-end (h .cleared) l)
+    rw (three u e, whole) at (h .collected)
 
 past : (x y z : ℕ) (limit : List ℕ) → length limit ≡ 3 → getD limit 2 0 < z → dominates (x ∷ y ∷ z ∷ []) limit ≡ false
 unfolding dominates both
@@ -258,7 +268,7 @@ past x y z limit e l =
     rw (← (three limit e), lt-leb z (getD limit 2 0) l, both-comm (leb y (getD limit 1 0)) false)
     (both-comm (leb x (getD limit 0 0)) false)
 
-module _ {xs ys zs limit kx₀ ky₀ kz₀ places₀ out₀ : List ℕ} {ux uy uz : ℕ} {kx ky kz places out : List ℕ} {m i : ℕ} (h : Gathering xs ys zs limit kx₀ ky₀ kz₀ places₀ out₀ ux uy uz kx ky kz places out m i) (three-long : length limit ≡ 3) (l : i < length xs) (beyond : getD limit 2 0 < getD zs i 0) where
+module _ {xs ys zs limit kx₀ ky₀ kz₀ places₀ : List ℕ} {ux uy uz : ℕ} {kx ky kz places : List ℕ} {m i : ℕ} (h : Gathering xs ys zs limit kx₀ ky₀ kz₀ places₀ ux uy uz kx ky kz places m i) (three-long : length limit ≡ 3) (l : i < length xs) (beyond : getD limit 2 0 < getD zs i 0) where
   none-within : (j : ℕ) → i ≤ j → j < length xs → dominates (getD (corners (ux ∷ uy ∷ uz ∷ []) xs ys zs) j []) limit ≡ false
   none-within j n o =
       let later : getD zs i 0 ≤ getD zs j 0 = ascending-at zs (h .asked .rising) i j n (omega (arith, h .asked .same-length .zs-many)) in
@@ -302,5 +312,5 @@ module _ {xs ys zs limit kx₀ ky₀ kz₀ places₀ out₀ : List ℕ} {ux uy u
           let never : false ≡ true = sym (none-within j (omega arith) q) ∙ d in
           absurd (let z : _≡_ {A = ℕ} 0 1 = cc in omega arith)
 
-pub gathering-stop : {xs ys zs limit kx₀ ky₀ kz₀ places₀ out₀ kx ky kz places out out′ : List ℕ} {m i : ℕ} (u : List ℕ) → length u ≡ 3 → length limit ≡ 3 → Gathering xs ys zs limit kx₀ ky₀ kz₀ places₀ out₀ (getD u 0 0) (getD u 1 0) (getD u 2 0) kx ky kz places out m i → i < length xs → getD limit 2 0 < getD zs i 0 → out′ ≡ put out i (replicate (length xs - i) 0) → Collected xs ys zs u limit (length xs) kx ky kz places m × (out′ ≡ put out₀ 0 (replicate (length xs) 0))
-gathering-stop u e f h l b c = (rw (three u e) at (stopped h f l b), clearing-rest (h .cleared) c)
+pub gathering-stop : {xs ys zs limit kx₀ ky₀ kz₀ places₀ kx ky kz places : List ℕ} {m i : ℕ} (u : List ℕ) → length u ≡ 3 → length limit ≡ 3 → Gathering xs ys zs limit kx₀ ky₀ kz₀ places₀ (getD u 0 0) (getD u 1 0) (getD u 2 0) kx ky kz places m i → i < length xs → getD limit 2 0 < getD zs i 0 → Collected xs ys zs u limit (length xs) kx ky kz places m
+gathering-stop u e f h l b = rw (three u e) at (stopped h f l b)

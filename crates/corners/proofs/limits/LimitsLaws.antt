@@ -187,6 +187,12 @@ module _ {xs ys zs : List ℕ} {ux uy uz : ℕ} {on-x on-y on-z : Two} {limit : 
   abbrev p : List ℕ
   p = px ∷ py ∷ pz ∷ []
 
+  pub ys-there : i < length xs → i < length ys
+  ys-there l = omega (arith, h .same-length .ys-many)
+
+  pub zs-there : i < length xs → i < length zs
+  zs-there l = omega (arith, h .same-length .zs-many)
+
   many : length (zip-points xs ys zs) ≡ length xs
   many = points-length xs ys zs (h .same-length .ys-many) (h .same-length .zs-many)
 

@@ -3,16 +3,15 @@
 use Prim.Native.Nat.{ℕ}
 use mathlib.Core.Path.{_≡_, sym}
 use mathlib.Core.List.{List}
-use lib.ListN.{length, replicate}
-use lib.Seq.{length-take-le}
+use lib.ListN.{length, replicate, length-replicate}
 use denote.Ref.{now}
-use Rattle.corners.proofs.UpdateLaws.{Prepared, places-many, prepared-ready, prepared-spreading, prepared-enough, prepared-gain, prepared-joints}
+use Rattle.corners.proofs.UpdateLaws.{ready-same-length, ready-collecting, prepared-long, Prepared, kx-many, ky-many, kz-many, places-many, prepared-fits, prepared-room, lent-many, prepared-ready, prepared-spreading, prepared-enough, prepared-gain, prepared-joints}
 use borrow.Author.Needs.{needs}
 use Rattle.corners.proofs.update.Statement.{statement}
 use Rattle.corners.proofs.update.Tie as tie
 
 limits-requires : tie.Need-limits-requires
-limits-requires c κs = search needs
+limits-requires c κs = (ready-same-length (c .before .before .before .before .pre .0), c .before .before .before .before .pre .1)
 
 slice-aggregate-collect : tie.Need-slice-aggregate-collect
 slice-aggregate-collect c = search needs
@@ -27,14 +26,14 @@ slice-aggregate-collect-4 : tie.Need-slice-aggregate-collect-4
 slice-aggregate-collect-4 c = search needs
 
 collect-requires : tie.Need-collect-requires
-collect-requires c κs = search needs
+collect-requires c κs = ready-collecting (c .before .before .before .before .before .before .before .before .before .pre .0) (c .before .before .before .before .limits .ensures)
 
 length-u : (c : tie.Start) → length (c .args .u .at) ≡ 3
 length-u c = search needs
 
 -- what collecting the corners leaves
 abbrev start : tie.After-collect → tie.Start
-start c = c .before .before .before .before .before .before .before .before .before .before .before
+start c = c .before .before .before .before .before .before .before .before .before .before
 
 abbrev m : tie.After-collect → ℕ
 m c = c .collect .result
@@ -54,80 +53,85 @@ places c = c .collect .last .1 .1 .1 .1 .1 .1 .1 .1 .0
 abbrev after : tie.After-places2 → tie.After-collect
 after c = c .before .before .before .before
 
-prepared : (c : tie.After-places2) → Prepared (start (after c) .args .u .at) (now (start (after c) .args .xs)) (now (start (after c) .args .ys)) (now (start (after c) .args .zs)) (start (after c) .args .reference .at) (now (start (after c) .args .out)) (after c .before .before .before .before .before .before .limits .result) (kx (after c)) (ky (after c)) (kz (after c)) (places (after c)) (m (after c))
+prepared : (c : tie.After-places2) → Prepared (start (after c) .args .u .at) (now (start (after c) .args .xs)) (now (start (after c) .args .ys)) (now (start (after c) .args .zs)) (start (after c) .args .reference .at) (now (start (after c) .args .out)) (after c .before .before .before .before .before .limits .result) (kx (after c)) (ky (after c)) (kz (after c)) (places (after c)) (m (after c))
 prepared c =
     let collected = after c in
     record {
       axes = length-u (start collected);
       ready = start collected .pre .0;
       small = start collected .pre .1;
-      limits = collected .before .before .before .before .before .before .limits .ensures;
-      kx-long = search needs;
-      ky-long = search needs;
-      kz-long = search needs;
-      places-long = search needs;
-      collected = collected .collect .ensures .0;
+      limits = collected .before .before .before .before .before .limits .ensures;
+      kx-long = c .before .before .before .kx2 .given;
+      ky-long = c .before .before .ky2 .given;
+      kz-long = c .before .kz2 .given;
+      places-long = c .places2 .given;
+      collected = collected .collect .ensures;
     }
 
 array-share-prefix-kx : tie.Need-array-share-prefix-kx
-array-share-prefix-kx c = search needs
+array-share-prefix-kx c = prepared-fits (prepared c) (prepared c .kx-long)
 
 slice-aggregate-sweep : tie.Need-slice-aggregate-sweep
-slice-aggregate-sweep c = sym (length-take-le _ _ (search needs))
+slice-aggregate-sweep c = sym (kx-many (prepared (c .before)))
 
 array-share-prefix-ky : tie.Need-array-share-prefix-ky
-array-share-prefix-ky c = search needs
+array-share-prefix-ky c = prepared-fits (prepared (c .before)) (prepared (c .before) .ky-long)
 
 slice-aggregate-sweep-2 : tie.Need-slice-aggregate-sweep-2
-slice-aggregate-sweep-2 c = sym (length-take-le _ _ (search needs))
+slice-aggregate-sweep-2 c = sym (ky-many (prepared (c .before .before)))
 
 array-share-prefix-kz : tie.Need-array-share-prefix-kz
-array-share-prefix-kz c = search needs
+array-share-prefix-kz c = prepared-fits (prepared (c .before .before)) (prepared (c .before .before) .kz-long)
 
 slice-aggregate-sweep-3 : tie.Need-slice-aggregate-sweep-3
-slice-aggregate-sweep-3 c = sym (length-take-le _ _ (search needs))
+slice-aggregate-sweep-3 c = sym (kz-many (prepared (c .before .before .before)))
 
 slice-aggregate-sweep-4 : tie.Need-slice-aggregate-sweep-4
 slice-aggregate-sweep-4 c = search needs
 
 sweep-requires : tie.Need-sweep-requires
-sweep-requires c κs = prepared-ready (prepared (c .before .before .before .before .before .before)) (search needs)
+sweep-requires c κs = prepared-ready (prepared (c .before .before .before .before)) (length-replicate {A = ℕ} 512 0)
+
+clear-requires : tie.Need-clear-requires
+clear-requires c κs = prepared-room (prepared (c .before .before .before .before .before .before .before))
 
 array-share-prefix-counts : tie.Need-array-share-prefix-counts
-array-share-prefix-counts c = search needs
+array-share-prefix-counts c = prepared-fits (prepared (c .before .before .before .before .before .before .before .before .before .before)) (c .before .before .before .before .counts2 .given)
 
 slice-aggregate-spread : tie.Need-slice-aggregate-spread
-slice-aggregate-spread c = sym (length-take-le _ _ (search needs))
+slice-aggregate-spread c = sym (lent-many (prepared (c .before .before .before .before .before .before .before .before .before .before .before)) (replicate 512 0) (c .before .before .before .before .before .before .sweep .ensures .1))
 
 array-share-prefix-places : tie.Need-array-share-prefix-places
-array-share-prefix-places c = search needs
+array-share-prefix-places c = prepared-fits (prepared (c .before .before .before .before .before .before .before .before .before .before .before)) (prepared (c .before .before .before .before .before .before .before .before .before .before .before) .places-long)
 
 slice-aggregate-spread-2 : tie.Need-slice-aggregate-spread-2
-slice-aggregate-spread-2 c = sym (places-many (prepared (c .before .before .before .before .before .before .before .before .before .before)))
+slice-aggregate-spread-2 c = sym (places-many (prepared (c .before .before .before .before .before .before .before .before .before .before .before .before)))
 
 spread-requires : tie.Need-spread-requires
 spread-requires c κs =
-    let swept = c .before .before .before .before in
-    let at = swept .before .before .before .before .before .before .before in
-    prepared-spreading (prepared at) (replicate 512 0) (swept .sweep .ensures .1) (after at .collect .ensures .1)
+    let swept = c .before .before .before .before .before .before .before .before in
+    let at = swept .before .before .before .before .before in
+    prepared-spreading (prepared at) (replicate 512 0) (swept .sweep .ensures .1) (c .before .before .before .before .before .clear .ensures)
 
 edges-requires : tie.Need-edges-requires
-edges-requires c κs = start (after (c .before .before .before .before .before .before .before .before .before .before .before .before .before .before)) .pre .0 .reference-small
+edges-requires c κs = prepared (c .before .before .before .before .before .before .before .before .before .before .before .before .before .before .before .before) .ready .reference-small
 
 sub-result : tie.Need-sub-result
 sub-result c =
-    let swept = c .before .before .before .before .before .before .before .before in
-    prepared-enough (prepared (swept .before .before .before .before .before .before .before)) (swept .sweep .ensures .0) (c .edges .ensures)
+    let swept = c .before .before .before .before .before .before .before .before .before .before .before .before in
+    prepared-enough (prepared (swept .before .before .before .before .before)) (swept .sweep .ensures .0) (c .edges .ensures)
 
 same-length : tie.Need-same-length
-same-length c = search needs
+same-length c =
+    let swept = c .before .before .before .before .before .before .before .before .before .before .before .before in
+    prepared-long (prepared (swept .before .before .before .before .before)) (replicate 512 0) (swept .sweep .ensures .1) (c .before .before .before .before .before .before .before .before .before .clear .ensures) (c .before .before .before .spread .ensures)
 
 returns : tie.Need-returns
 returns c =
-    let swept = c .before .before .before .before .before .before .before .before in
-    let at = swept .before .before .before .before .before .before .before in (
+    let swept = c .before .before .before .before .before .before .before .before .before .before .before .before in
+    let at = swept .before .before .before .before .before in (
       prepared-gain (prepared at) (swept .sweep .ensures .0) (c .edges .ensures),
-      prepared-joints (prepared at) (replicate 512 0) (swept .sweep .ensures .1) (after at .collect .ensures .1) (c .before .before .before .spread .ensures),
+      prepared-joints (prepared at) (replicate 512 0) (swept .sweep .ensures .1) (c .before .before .before .before .before .before .before .before .before .clear .ensures) (c .before .before .before .spread .ensures),
     )
 
 pub update-spec : {M : Type 1} → statement M
@@ -148,6 +152,7 @@ update-spec =
     slice-aggregate-sweep-3
     slice-aggregate-sweep-4
     sweep-requires
+    clear-requires
     array-share-prefix-counts
     slice-aggregate-spread
     array-share-prefix-places

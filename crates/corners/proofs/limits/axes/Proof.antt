@@ -3,21 +3,21 @@ use Prim.Native.Nat.{_≤_}
 use native.Mathlib.Omega.{arith}
 use Rattle.corners.specs.Limits.{axes-within}
 use Rattle.hypervolume.proofs.Tests.{holds-small}
-use borrow.Author.Needs.{needs}
+use lib.Dec.{lit<}
 use Rattle.corners.proofs.limits.axes.Statement.{statement}
 use Rattle.corners.proofs.limits.axes.Tie as tie
 
 array-read-at-most : tie.Need-array-read-at-most
-array-read-at-most c = search needs
+array-read-at-most c = lit< tt
 
 at-most-requires : tie.Need-at-most-requires
-at-most-requires c κs = search needs
+at-most-requires c κs = tt
 
 array-read-at-most-2 : tie.Need-array-read-at-most-2
-array-read-at-most-2 c = search needs
+array-read-at-most-2 c = lit< tt
 
 at-most-requires-2 : tie.Need-at-most-requires-2
-at-most-requires-2 c κs = search needs
+at-most-requires-2 c κs = tt
 
 add-result : tie.Need-add-result
 add-result c =
@@ -26,10 +26,10 @@ add-result c =
     omega arith
 
 array-read-at-most-3 : tie.Need-array-read-at-most-3
-array-read-at-most-3 c = search needs
+array-read-at-most-3 c = lit< tt
 
 at-most-requires-3 : tie.Need-at-most-requires-3
-at-most-requires-3 c κs = search needs
+at-most-requires-3 c κs = tt
 
 add-result-2 : tie.Need-add-result-2
 add-result-2 c =

@@ -1,11 +1,11 @@
 -- `limits` meets its contract. The invariant: the two least offers of the first i points on each axis, and their limits.
-use Prim.Native.Nat.{_-_, _≤_}
+use Prim.Native.Nat.{_-_}
 use mathlib.Core.Path.{_≡_}
-use native.Mathlib.Omega.{arith}
 use lib.ListN.{length}
+use lib.Dec.{lit<}
 use borrow.Author.Count.{falls}
-use Rattle.corners.proofs.limits.AxesLaws.{axes-few}
-use Rattle.corners.proofs.limits.LimitsLaws.{Bounding, bounding-none, bounding-skip, bounding-more, bounding-end}
+use Rattle.corners.proofs.limits.AxesLaws.{axes-few, axes-add}
+use Rattle.corners.proofs.limits.LimitsLaws.{ys-there, zs-there, Bounding, bounding-none, bounding-skip, bounding-more, bounding-end}
 use borrow.Author.Needs.{needs}
 use Rattle.corners.proofs.limits.limits.Statement.{statement}
 use Rattle.corners.proofs.limits.limits.Tie as tie
@@ -17,19 +17,19 @@ abbrev μ-loop : tie.MeasureT-loop
 μ-loop xs ys zs ux uy uz floor on-x₀ on-y₀ on-z₀ limit₀ i₀ on-x on-y on-z limit i = length xs - i
 
 element-copy-out-ux : tie.Need-element-copy-out-ux Inv-loop μ-loop
-element-copy-out-ux c = search needs
+element-copy-out-ux c = lit< tt
 
 cast-ux : tie.Need-cast-ux Inv-loop μ-loop
 cast-ux c = search needs
 
 element-copy-out-uy : tie.Need-element-copy-out-uy Inv-loop μ-loop
-element-copy-out-uy c = search needs
+element-copy-out-uy c = lit< tt
 
 cast-uy : tie.Need-cast-uy Inv-loop μ-loop
 cast-uy c = search needs
 
 element-copy-out-uz : tie.Need-element-copy-out-uz Inv-loop μ-loop
-element-copy-out-uz c = search needs
+element-copy-out-uz c = lit< tt
 
 cast-uz : tie.Need-cast-uz Inv-loop μ-loop
 cast-uz c = search needs
@@ -44,22 +44,22 @@ mul-x : tie.Need-mul-x Inv-loop μ-loop
 mul-x c = search needs
 
 shared-slice-read-x : tie.Need-shared-slice-read-x Inv-loop μ-loop
-shared-slice-read-x c = search needs
+shared-slice-read-x c = c .before .loop-test .taken
 
 mul-y : tie.Need-mul-y Inv-loop μ-loop
-mul-y c = search needs
+mul-y c = mul-x (c .before)
 
 shared-slice-read-y : tie.Need-shared-slice-read-y Inv-loop μ-loop
-shared-slice-read-y c = search needs
+shared-slice-read-y c = ys-there (c .before .before .before .loop .inv) (c .before .before .loop-test .taken)
 
 mul-z : tie.Need-mul-z Inv-loop μ-loop
-mul-z c = search needs
+mul-z c = mul-x (c .before .before)
 
 shared-slice-read-z : tie.Need-shared-slice-read-z Inv-loop μ-loop
-shared-slice-read-z c = search needs
+shared-slice-read-z c = zs-there (c .before .before .before .before .loop .inv) (c .before .before .before .loop-test .taken)
 
 array-read-if1 : tie.Need-array-read-if1 Inv-loop μ-loop
-array-read-if1 c = search needs
+array-read-if1 c = lit< tt
 
 returns : tie.Need-returns Inv-loop μ-loop
 returns c =
@@ -70,43 +70,40 @@ add-i : tie.Need-add-i Inv-loop μ-loop
 add-i c = search needs
 
 axes-requires : tie.Need-axes-requires Inv-loop μ-loop
-axes-requires c κs = search needs
+axes-requires c κs = tt
 
 axes-requires-2 : tie.Need-axes-requires-2 Inv-loop μ-loop
-axes-requires-2 c κs = search needs
+axes-requires-2 c κs = tt
 
 add-if2 : tie.Need-add-if2 Inv-loop μ-loop
-add-if2 c =
-    let first : c .before .axes .result ≤ 3 = axes-few _ _ _ _ (c .before .axes .ensures) in
-    let second : c .axes2 .result ≤ 3 = axes-few _ _ _ _ (c .axes2 .ensures) in
-    omega arith
+add-if2 c = axes-add (axes-few _ _ _ _ (c .before .axes .ensures)) (axes-few _ _ _ _ (c .axes2 .ensures))
 
 offered-requires : tie.Need-offered-requires Inv-loop μ-loop
-offered-requires c κs = search needs
+offered-requires c κs = tt
 
 with-requires : tie.Need-with-requires Inv-loop μ-loop
-with-requires c κs = search needs
+with-requires c κs = tt
 
 offered-requires-2 : tie.Need-offered-requires-2 Inv-loop μ-loop
-offered-requires-2 c κs = search needs
+offered-requires-2 c κs = tt
 
 with-requires-2 : tie.Need-with-requires-2 Inv-loop μ-loop
-with-requires-2 c κs = search needs
+with-requires-2 c κs = tt
 
 offered-requires-3 : tie.Need-offered-requires-3 Inv-loop μ-loop
-offered-requires-3 c κs = search needs
+offered-requires-3 c κs = tt
 
 with-requires-3 : tie.Need-with-requires-3 Inv-loop μ-loop
-with-requires-3 c κs = search needs
+with-requires-3 c κs = tt
 
 larger-requires : tie.Need-larger-requires Inv-loop μ-loop
-larger-requires c κs = search needs
+larger-requires c κs = tt
 
 larger-requires-2 : tie.Need-larger-requires-2 Inv-loop μ-loop
-larger-requires-2 c κs = search needs
+larger-requires-2 c κs = tt
 
 larger-requires-3 : tie.Need-larger-requires-3 Inv-loop μ-loop
-larger-requires-3 c κs = search needs
+larger-requires-3 c κs = tt
 
 loop-less : tie.Need-loop-less Inv-loop μ-loop
 loop-less c = falls _ _ (c .before .before .before .before .before .before .before .before .before .before .before .before .before .before .before .before .loop-test .taken)
