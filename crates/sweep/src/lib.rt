@@ -7,10 +7,6 @@ ghost use lib.ListN.{length, drop};
 ghost use Rattle.hypervolume.specs.Counts.{total, contributions};
 ghost use Rattle.sweep.specs.Points.{zip-points, Ready};
 
-mod column;
-mod line;
-mod strips;
-
 // The total of the points, and in `out` the contribution of each. After i points, `volume` and `out` are those of these
 // points alone. No earlier point has a larger z, so in each layer that the next point reaches it meets the same
 // picture, seen along z: one area to add and one area to take from each earlier point, `height` cells deep.
