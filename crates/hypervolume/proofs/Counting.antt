@@ -15,7 +15,7 @@ use Rattle.hypervolume.specs.Cells.{holds, dominates, join, sum, cells, 
 use Rattle.hypervolume.specs.Counts.{cover, total, contribution, joint, gain}
 use Rattle.hypervolume.proofs.Sums.{sum-none, sum-steady, cells-ext, cells-add, cells-le, cells-none}
 use Rattle.hypervolume.proofs.Tests.{holds-le-one}
-use Rattle.hypervolume.proofs.Dominance.{dominates-join, within, cover-append, cover-joins, Among, at-most, atMost-dominates}
+use Rattle.hypervolume.proofs.Dominance.{dominates-join, within, cover-append, cover-joins, Among, at-most, at-most-dominates}
 
 -- Counts respect equality, sums and order.
 pub count-ext : (r : List ℕ) (p q : List ℕ → Bool) → ((c : List ℕ) → p c ≡ q c) → count r p ≡ count r q
@@ -254,8 +254,8 @@ total-none r = count-none r _ (λ c. refl)
 pub twice-of : (front back more : List (List ℕ)) (p q s : List ℕ) → at-most p s ≡ true → at-most q s ≡ true → Twice (front ++ (p ∷ (back ++ (q ∷ more)))) s
 unfolding Twice cover holds
 twice-of front back more p q s hp hq c d =
-    let p-too : dominates p c ≡ true = atMost-dominates p s c hp d in
-    let q-too : dominates q c ≡ true = atMost-dominates q s c hq d in
+    let p-too : dominates p c ≡ true = at-most-dominates p s c hp d in
+    let q-too : dominates q c ≡ true = at-most-dominates q s c hq d in
     let outer : cover (front ++ (p ∷ (back ++ (q ∷ more)))) c ≡ cover front c + (holds (dominates p c) + cover (back ++ (q ∷ more)) c) =
     cover-append front (p ∷ (back ++ (q ∷ more))) c in
     let inner : cover (back ++ (q ∷ more)) c ≡ cover back c + (holds (dominates q c) + cover more c) =

@@ -53,16 +53,16 @@ at-most [] s = true
 at-most (x ∷ p) s = both (leb x (first s)) (at-most p (rest s))
 
 -- Where s dominates, so does whatever is at most s.
-pub atMost-dominates : (p s c : List ℕ) → at-most p s ≡ true → dominates s c ≡ true → dominates p c ≡ true
+pub at-most-dominates : (p s c : List ℕ) → at-most p s ≡ true → dominates s c ≡ true → dominates p c ≡ true
 unfolding at-most dominates
-atMost-dominates [] s c a d = refl
-atMost-dominates (x ∷ p) s [] a d = refl
-atMost-dominates (x ∷ p) s (i ∷ c) a d =
+at-most-dominates [] s c a d = refl
+at-most-dominates (x ∷ p) s [] a d = refl
+at-most-dominates (x ∷ p) s (i ∷ c) a d =
     let a′ = both-true (leb x (first s)) (at-most p (rest s)) a in
     let d′ = both-true (leb (first s) i) (dominates (rest s) c) (sym (dominates-cons s i c) ∙ d) in
     let here : leb x i ≡ true =
     le-leb x i (le-trans (leb-true x (first s) (a′ .0)) (leb-true (first s) i (d′ .0))) in
-    both-intro (leb x i) (dominates p c) here (atMost-dominates p (rest s) c (a′ .1) (d′ .1))
+    both-intro (leb x i) (dominates p c) here (at-most-dominates p (rest s) c (a′ .1) (d′ .1))
 
 -- How many dominate: lists one behind the other, a list of corners, a member.
 pub cover-append : (s t : List (List ℕ)) (c : List ℕ) → cover (s ++ t) c ≡ cover s c + cover t c

@@ -20,9 +20,10 @@ use Rattle.slices.proofs.Choices.{both-comm}
 use Rattle.hypervolume.proofs.Dominance.{first, rest, cover-append, among-at}
 use Rattle.hypervolume.proofs.Counting.{count-none, SameCover, total-same, total-more, contribution-same, contribution-new, contribution-more}
 use Rattle.hypervolume.proofs.Axes.{FirstAtMost, gain-layers, joint-layers}
-use Rattle.sweep.specs.Line.{entry-of, x-of, y-of, index-of, spot, tally, over, over-by, gain-over, shared-with, Rising, Flagged, ValidLine, Alike}
-use Rattle.sweep.specs.Entries.{Below}
-use Rattle.sweep.proofs.Tally.{over-cons}
+use Rattle.line.specs.Line.{entry-of, x-of, y-of, index-of, spot, tally, over, over-by, Rising, Flagged, ValidLine, Alike}
+use Rattle.strips.specs.Strips.{gain-over, shared-with}
+use Rattle.line.specs.Entries.{Below}
+use Rattle.line.proofs.Tally.{over-cons}
 
 -- The line counts as the trials do, seen along z, in the rows below ry, where two are as good as more.
 unfoldable pub LineCovers : ℕ → List ℕ → List (List ℕ) → Type 0

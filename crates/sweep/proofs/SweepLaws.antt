@@ -13,17 +13,17 @@ use Rattle.hypervolume.specs.Counts.{total, contribution, contributions}
 use Rattle.hypervolume.proofs.Dominance.{first}
 use Rattle.hypervolume.proofs.Counting.{total-none, total-le-box}
 use Rattle.hypervolume.proofs.Axes.{FirstAtMost}
-use Rattle.sweep.specs.declared.column.Column.{Column}
+use Rattle.line.specs.declared.column.Column.{Column}
 use Rattle.sweep.specs.Points.{zip-points, Ready}
-use Rattle.sweep.specs.Line.{entry-of, x-of, index-of, flag-of, shared-with, Rising, Flagged, Ranked}
-use Rattle.sweep.specs.Strips.{Seen, Crossing, Crossed}
-use Rattle.sweep.specs.Entries.{Entering, Entered}
+use Rattle.line.specs.Line.{entry-of, x-of, index-of, flag-of, Rising, Flagged, Ranked}
+use Rattle.strips.specs.Strips.{shared-with, Seen, Crossing, Crossed}
+use Rattle.line.specs.Entries.{Entering, Entered}
 use Rattle.sweep.proofs.Coordinates.{ascending-at, points-length, points-at, total-turned, contribution-turned, three}
 use Rattle.sweep.proofs.Front.{getD-mapped, front-then}
-use Rattle.sweep.proofs.strips.SettleLaws.{three-fit}
-use Rattle.sweep.proofs.line.Flags.{flagged-front}
+use Rattle.strips.proofs.SettleLaws.{three-fit}
+use Rattle.line.proofs.Flags.{flagged-front}
 use Rattle.sweep.proofs.Layers.{LineFor, line-for-none, line-for-more, at-first, shared-with-none, next-total, next-own, next-other}
-use Rattle.sweep.proofs.line.Entries.{below-lift, below-at}
+use Rattle.line.proofs.Entries.{below-lift, below-at}
 
 pub record Progress (xs ys zs out : List ℕ) (rx ry rz i held volume : ℕ) (line left : List ℕ) : Type 0 where
   pub ready : Ready xs ys zs (rx ∷ ry ∷ rz ∷ []) out

@@ -1,0 +1,2 @@
+-- What the pass along the line counts for the next point.
+pub mod Strips

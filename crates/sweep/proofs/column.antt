@@ -1,2 +1,0 @@
--- Laws of a column's state.
-pub mod WithLaws
