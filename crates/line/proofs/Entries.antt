@@ -56,4 +56,3 @@ below-at n (w ∷ line) l b (suc k) = below-at n line l (b .1) k
 -- Parts of the line.
 pub take-drop : (at m : ℕ) (l : List ℕ) → at ≤ m → take at l ++ drop at (take m l) ≡ take m l
 take-drop at m l p = rw (← (take-take at m l p)) (take-append-drop at (take m l))
-
