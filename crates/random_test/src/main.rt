@@ -112,11 +112,7 @@ fn somewhere(reference: Point, set: u64, i: u64) -> Point {
 
 // Whether the gain of a point is the count of the cells that it alone dominates.
 fn gain_agrees(book: &[u32], reference: Point, w: &[u64], p: Point) -> bool {
-    says(
-        ask::gain(w, p),
-        0,
-        testing::cells(book, reference, p, 0, 0),
-    )
+    says(ask::gain(w, p), 0, testing::cells(book, reference, p, 0, 0))
 }
 
 // Whether the least contributor that is dropped has this number and contribution; number 0 where there is none.

@@ -64,6 +64,17 @@ pub fn print(name: &[u8], count: u64) {
     io::print_decimal(1, count);
 }
 
+// The n bytes from `from` on; none where there are not so many.
+pub fn part(text: &[u8], from: usize, n: usize) -> &[u8] {
+    if text.len() < from {
+        return &text[..0];
+    }
+    if text.len() - from < n {
+        return &text[..0];
+    }
+    &text[from..from + n]
+}
+
 // A script has a line to a call: its name, then numbers, all parted by spaces.
 
 // The first place from `from` on that is no space.
