@@ -1,6 +1,7 @@
 // Loads and checks cards of every kind, good and refused, and writes reports, by a script on standard input; prints how
 // many of each kind came out as they should.
 use testing::at;
+use testing::first;
 use testing::one;
 use testing::part;
 use testing::print;
@@ -32,14 +33,6 @@ fn judged(text: &[u8], row: [u64; 7]) -> bool {
         && at(&words, 0) == row[6]
         && testing::filled(&words, row[5] as usize, 7)
         && same_check(text, row)
-}
-
-// The first n words, as far as there are so many.
-fn first(words: &[u64], n: usize) -> &[u64] {
-    if words.len() < n {
-        return words;
-    }
-    &words[0..n]
 }
 
 fn report(words: &[u64], out: &mut [u8], n: usize) -> calls::Answer

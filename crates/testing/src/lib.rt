@@ -64,6 +64,14 @@ pub fn print(name: &[u8], count: u64) {
     io::print_decimal(1, count);
 }
 
+// The first n words, as far as there are so many.
+pub fn first(words: &[u64], n: usize) -> &[u64] {
+    if words.len() < n {
+        return words;
+    }
+    &words[0..n]
+}
+
 // The n bytes from `from` on; none where there are not so many.
 pub fn part(text: &[u8], from: usize, n: usize) -> &[u8] {
     if text.len() < from {
