@@ -79,7 +79,14 @@ fn right(points: &[u32], reference: Point, u: Point, out: &[u64], n: usize) -> b
 }
 
 // Whether the sweep agrees with the direct count.
-fn sweep_agrees(xs: &[u64], ys: &[u64], zs: &[u64], all: &[u32], reference: Point, out: &mut [u64]) -> bool
+fn sweep_agrees(
+    xs: &[u64],
+    ys: &[u64],
+    zs: &[u64],
+    all: &[u32],
+    reference: Point,
+    out: &mut [u64],
+) -> bool
     requires { ⌜ Ready (now xs) (now ys) (now zs) (reference .at) (now out) ⌝ }
 {
     let origin = Point { at: [0, 0, 0] };
