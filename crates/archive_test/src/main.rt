@@ -4,45 +4,13 @@ use calls::Answer;
 use hypervolume::Point;
 use testing::at;
 use testing::one;
-use testing::put;
 ghost use mathlib.Core.Path.{_≡_};
 ghost use Prim.Native.Nat.{_≤_};
 ghost use lib.ListN.{length};
 
 // The point of a line.
 fn point(row: [u64; 7]) -> Point {
-    Point {
-        at: [
-            (row[2] % 16777216) as u32,
-            (row[3] % 16777216) as u32,
-            (row[4] % 16777216) as u32,
-        ],
-    }
-}
-
-// A reduction into a log of up to 15 words.
-fn reduce(w: &mut [u64], log: &mut [u64], row: [u64; 7]) -> Answer
-    requires { ⌜ length (now log) ≡ 15 ⌝ }
-{
-    let n = (row[2] % 16) as usize;
-    removal::reduce(w, row[1], &mut log[..n])
-}
-
-// The answer, where a refusal has left the log as it was.
-fn logged(log: &[u64], a: Answer, row: [u64; 7]) -> Answer {
-    if row[5] == 0 || testing::filled(log, 0, 7) {
-        return a;
-    }
-    Answer {
-        refusal: 99,
-        value: 0,
-    }
-}
-
-fn reduced(w: &mut [u64], row: [u64; 7]) -> Answer {
-    let mut log = [7u64; 15];
-    let a = reduce(w, &mut log, row);
-    logged(&log, a, row)
+    Point::new(row[2] % 16777216, row[3] % 16777216, row[4] % 16777216)
 }
 
 // The answer of a call that says no more than whether it is done.
@@ -53,18 +21,43 @@ fn plain(refusal: u64) -> Answer {
     }
 }
 
-// A call that writes.
-fn change(w: &mut [u64], name: u8, row: [u64; 7]) -> Answer {
+fn reduce_into(w: &mut [u64], keep: u64, log: &mut [u64], n: usize) -> Answer
+    requires { ⌜ n ≤ length (now log) ⌝ }
+{
+    removal::reduce(w, keep, &mut log[0..n])
+}
+
+// A reduction into a log of up to 15 words, which a refusal has to leave as it was.
+fn reduce(w: &mut [u64], row: [u64; 7]) -> Answer {
+    let mut log = [7u64; 15];
+    let a = reduce_into(w, row[1], &mut log, (row[2] % 16) as usize);
+    if a.refusal == 0 || testing::filled(&log, 0, 7) {
+        return a;
+    }
+    plain(99)
+}
+
+// Another call that writes; its refusal.
+fn written(w: &mut [u64], name: u8, number: u64, p: Point) -> u64 {
     if name == b'b' {
-        return plain(insertion::start(w, point(row), row[1]));
+        return insertion::start(w, p, number);
     }
     if name == b'i' {
-        return plain(insertion::insert(w, row[1], point(row)));
+        return insertion::insert(w, number, p);
     }
-    if name == b'r' {
-        return plain(removal::remove(w, row[1]));
+    removal::remove(w, number)
+}
+
+// A line that writes.
+fn change(w: &mut [u64], name: u8, row: [u64; 7]) -> Answer {
+    if name == b'd' {
+        return reduce(w, row);
     }
-    reduced(w, row)
+    if name == b'p' {
+        testing::put(w, row[1] as usize, row[2]);
+        return plain(0);
+    }
+    plain(written(w, name, row[1], point(row)))
 }
 
 // The least contributor, as one number.
@@ -76,7 +69,7 @@ fn least(w: &[u64]) -> Answer {
     }
 }
 
-// A question.
+// A line that asks.
 fn answer(w: &[u64], name: u8, row: [u64; 7]) -> Answer {
     if name == b'l' {
         return least(w);
@@ -90,6 +83,12 @@ fn answer(w: &[u64], name: u8, row: [u64; 7]) -> Answer {
     if name == b's' {
         return ask::share(w);
     }
+    if name == b'w' {
+        return Answer {
+            refusal: 0,
+            value: at(w, row[1] as usize),
+        };
+    }
     ask::audit(w)
 }
 
@@ -98,40 +97,27 @@ fn says(a: Answer, row: [u64; 7]) -> bool {
     a.refusal == row[5] && a.value == row[6]
 }
 
-// How many words a line lends.
-fn lent(row: [u64; 7]) -> usize
-    ensures { λ r. ⌜ r ≤ 2568 ⌝ }
+fn lend(w: &mut [u64], n: usize, name: u8, row: [u64; 7]) -> bool
+    requires { ⌜ n ≤ length (now w) ⌝ }
 {
-    (row[0] % 2569) as usize
+    says(change(&mut w[0..n], name, row), row)
 }
 
-// Whether a call that writes comes out so, and leaves all words as they were where it is refused.
-fn writes(w: &mut [u64], name: u8, row: [u64; 7]) -> bool
-    requires { ⌜ length (now w) ≡ 2568 ⌝ }
+// Whether a line that writes comes out so, and leaves all words as they were where it is refused.
+fn writes(w: &mut [u64], n: usize, name: u8, row: [u64; 7]) -> bool
+    requires { ⌜ (length (now w) ≡ 2568) × (n ≤ 2568) ⌝ }
 {
     let mut before = [0u64; 2568];
     slices::copy(w, &mut before, 0);
-    let n = lent(row);
-    let right = says(change(&mut w[..n], name, row), row);
-    let left = testing::same(w, &before);
-    right && (left || row[5] == 0)
-}
-
-// The archive of document 01's card, in 48 words, and then a word of it.
-fn card(w: &mut [u64], row: [u64; 7]) {
-    insertion::start(w, Point { at: [4, 4, 4] }, 8);
-    insertion::insert(w, 1, Point { at: [1, 2, 2] });
-    insertion::insert(w, 2, Point { at: [2, 1, 2] });
-    insertion::insert(w, 3, Point { at: [2, 2, 1] });
-    insertion::insert(w, 4, Point { at: [1, 1, 3] });
-    put(w, lent(row), row[1]);
+    let right = lend(w, n, name, row);
+    right && (row[5] == 0 || testing::same(w, &before))
 }
 
 // What a line is, by the first letter of its name: 1 writes, 2 asks, 0 neither.
 fn kind(name: u8) -> u64 {
     match name {
-        b'b' | b'i' | b'r' | b'd' => 1,
-        b'l' | b'j' | b'g' | b's' | b'a' => 2,
+        b'b' | b'i' | b'r' | b'd' | b'p' => 1,
+        b'l' | b'j' | b'g' | b's' | b'a' | b'w' => 2,
         _ => 0,
     }
 }
@@ -140,23 +126,12 @@ fn kind(name: u8) -> u64 {
 fn line(w: &mut [u64], name: u8, row: [u64; 7]) -> bool
     requires { ⌜ length (now w) ≡ 2568 ⌝ }
 {
-    let kind = kind(name);
-    if kind == 1 {
-        return writes(w, name, row);
+    let n = (row[0] % 2569) as usize;
+    match kind(name) {
+        1 => writes(w, n, name, row),
+        2 => says(answer(testing::first(w, n), name, row), row),
+        _ => false,
     }
-    let n = lent(row);
-    if kind == 2 {
-        return says(answer(&w[..n], name, row), row);
-    }
-    if name == b'c' {
-        card(w, row);
-        return false;
-    }
-    if name == b'p' {
-        put(w, n, row[1]);
-        return false;
-    }
-    name == b'w' && at(w, n) == row[1]
 }
 
 // How many lines come out as they should.

@@ -71,15 +71,22 @@ fn refused(book: &[u32], n: usize, m: usize) -> u64 {
     if n == m { 10 } else { 0 }
 }
 
-// 1 where the joint contribution of two trials is the count of the cells that both and no third dominate.
+// The cells that both and no third dominate; 0 where the question is refused.
+fn joint(book: &[u32], reference: Point, n: usize, m: usize, refusal: u64) -> u64 {
+    if refusal != 0 {
+        return 0;
+    }
+    let corner = point_at(book, n).join(point_at(book, m));
+    testing::cells(book, reference, corner, 2, 2)
+}
+
+// 1 where the joint contribution of two trials is so.
 fn joint_agrees(book: &[u32], reference: Point, w: &[u64], n: usize, m: usize) -> u64
     ensures { λ r. ⌜ r ≤ 1 ⌝ }
 {
-    let a = ask::joint(w, n as u64, m as u64);
-    let corner = point_at(book, n).join(point_at(book, m));
-    let both = testing::cells(book, reference, corner, 2, 2);
     let refusal = refused(book, n, m);
-    one(says(a, refusal, if refusal == 0 { both } else { 0 }))
+    let due = joint(book, reference, n, m, refusal);
+    one(says(ask::joint(w, n as u64, m as u64), refusal, due))
 }
 
 // Whether the total, the contributions and joint contributions are the counts. The trials go in pairs n, n + step.
@@ -117,13 +124,13 @@ fn gain_agrees(book: &[u32], reference: Point, w: &[u64], p: Point) -> bool {
 
 // Whether the least contributor that is dropped has this number and contribution; number 0 where there is none.
 fn drops(w: &mut [u64], number: u64, due: u64) -> bool {
+    let mut log = [0u64; 2];
     let count = at(w, 0);
     if count == 0 {
         return number == 0;
     }
-    let mut log = [0u64; 2];
-    let done = says(removal::reduce(w, count - 1, &mut log), 0, 1);
-    done && at(&log, 0) == number && at(&log, 1) == due
+    let a = removal::reduce(w, count - 1, &mut log);
+    says(a, 0, 1) && testing::same(&log, &[number, due])
 }
 
 // Drops the least contributor from both.

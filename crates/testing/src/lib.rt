@@ -64,6 +64,25 @@ pub fn print(name: &[u8], count: u64) {
     io::print_decimal(1, count);
 }
 
+// The first n words, as far as there are so many.
+pub fn first(words: &[u64], n: usize) -> &[u64] {
+    if words.len() < n {
+        return words;
+    }
+    &words[0..n]
+}
+
+// The n bytes from `from` on; none where there are not so many.
+pub fn part(text: &[u8], from: usize, n: usize) -> &[u8] {
+    if text.len() < from {
+        return &text[..0];
+    }
+    if text.len() - from < n {
+        return &text[..0];
+    }
+    &text[from..from + n]
+}
+
 // A script has a line to a call: its name, then numbers, all parted by spaces.
 
 // The first place from `from` on that is no space.
@@ -136,22 +155,6 @@ pub fn next_line(text: &[u8], from: usize) -> usize
     i
 }
 
-// Whether a point dominates a cell. The cells of a box of 8 on each axis have the numbers 64 x + 8 y + z.
-fn dominates(x: u32, y: u32, z: u32, cell: u32) -> bool {
-    x <= cell / 64 && y <= cell / 8 % 8 && z <= cell % 8
-}
-
-// How many of the points, three coordinates each, dominate the cell.
-fn cover(points: &[u32], cell: u32) -> u64 {
-    let mut found: u64 = 0;
-    let mut t: usize = 0;
-    while t + 2 < points.len() {
-        found += one(dominates(points[t], points[t + 1], points[t + 2], cell));
-        t += 3;
-    }
-    found
-}
-
 // A coordinate of the points; beyond the box behind the end.
 fn coordinate(points: &[u32], i: usize) -> u32 {
     if i < points.len() { points[i] } else { 8 }
@@ -169,23 +172,41 @@ pub fn point_at(points: &[u32], n: usize) -> Point {
     }
 }
 
-// Whether the point dominates the cell, which lies within the reference.
-fn within(p: Point, reference: Point, cell: u32) -> bool {
-    let low = p.at;
-    let high = reference.at;
-    if high[0] <= cell / 64 || high[1] <= cell / 8 % 8 || high[2] <= cell % 8 {
+// Whether a point dominates a cell. The cells of a box of 8 on each axis have the numbers 64 x + 8 y + z.
+fn dominates(p: Point, cell: u32) -> bool {
+    let at = p.at;
+    at[0] <= cell / 64 && at[1] <= cell / 8 % 8 && at[2] <= cell % 8
+}
+
+// Whether the cell lies within the reference.
+fn inside(reference: Point, cell: u32) -> bool {
+    let at = reference.at;
+    cell / 64 < at[0] && cell / 8 % 8 < at[1] && cell % 8 < at[2]
+}
+
+// How many of the points, three coordinates each, dominate the cell. They are at most 12.
+fn cover(points: &[u32], cell: u32) -> u64 {
+    let mut found: u64 = 0;
+    for t in 0..12usize {
+        found = found % 100 + one(dominates(point_at(points, t), cell));
+    }
+    found
+}
+
+// Whether p dominates the cell, within the reference, and from `least` to `most` of the points do.
+fn counts(points: &[u32], reference: Point, p: Point, cell: u32, least: u64, most: u64) -> bool {
+    if !inside(reference, cell) || !dominates(p, cell) {
         return false;
     }
-    dominates(low[0], low[1], low[2], cell)
+    let over = cover(points, cell);
+    least <= over && over <= most
 }
 
 // How many cells p dominates of which from `least` to `most` of the points do. The reference is at most 8 on each axis.
 pub fn cells(points: &[u32], reference: Point, p: Point, least: u64, most: u64) -> u64 {
     let mut found: u64 = 0;
     for cell in 0..512u32 {
-        let over = cover(points, cell);
-        let so = within(p, reference, cell);
-        found = found % 1000 + one(so && least <= over && over <= most);
+        found = found % 1000 + one(counts(points, reference, p, cell, least, most));
     }
     found
 }

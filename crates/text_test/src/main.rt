@@ -7,54 +7,44 @@ use testing::print;
 use text::Field;
 use text::Line;
 
-// 1 where the field at a byte has this value.
-fn reads(fields: &[u8], from: usize, due: u64) -> u64
+// One more than the value of the field at a byte; 0 where it is not of the form.
+fn value(fields: &[u8], from: usize) -> u64
     requires { ⌜ from + 8 ≤ length (now fields) ⌝ }
-    ensures { λ r. ⌜ r ≤ 1 ⌝ }
-{
-    let Field::Value(v) = text::field_at(fields, from) else {
-        return 0;
-    };
-    if v == due { 1 } else { 0 }
-}
-
-// 1 where it is not of the form.
-fn damaged(fields: &[u8], from: usize) -> u64
-    requires { ⌜ from + 8 ≤ length (now fields) ⌝ }
-    ensures { λ r. ⌜ r ≤ 1 ⌝ }
 {
     match text::field_at(fields, from) {
-        Field::Value(_) => 0,
-        Field::Malformed => 1,
+        Field::Value(v) => v % 100000000 + 1,
+        Field::Malformed => 0,
     }
 }
 
-// How many of the fields, one behind the other, have these values.
-fn good_fields(fields: &[u8], values: &[u64]) -> u64 {
+// How many of the fields, one behind the other, have these values; 0 behind the last.
+fn fields(fields: &[u8], values: &[u64]) -> u64 {
     let mut found: u64 = 0;
     let mut from: usize = 0;
     while from + 8 <= fields.len() {
-        found = found % 1000 + reads(fields, from, at(values, from / 8));
+        found = found % 1000 + one(value(fields, from) == at(values, from / 8));
         from += 8;
     }
     found
 }
 
-// How many are not of the form.
-fn damaged_fields(fields: &[u8]) -> u64 {
-    let mut found: u64 = 0;
-    let mut from: usize = 0;
-    while from + 8 <= fields.len() {
-        found = found % 1000 + damaged(fields, from);
-        from += 8;
-    }
-    found
+fn good_fields() -> u64 {
+    fields(
+        b"       0       9      10 10485761000000099999999",
+        &[1, 10, 11, 1048577, 10000001, 100000000],
+    )
 }
 
-// 1 where the line at byte `at` has the values 8, 1, 22 and 333.
-fn good_line(card: &[u8], at: usize) -> u64
-    ensures { λ r. ⌜ r ≤ 1 ⌝ }
-{
+// No digit and a leading zero; spaces inside and behind; bytes that are no digits.
+fn damaged_fields() -> u64 {
+    fields(
+        b"              00      070000000001234567      1      1 212      1      2       /      1:      -1      +1      1a     \t 1      1\n\x00      1",
+        &[],
+    )
+}
+
+// 1 where the line at byte `at` has the values 8, 1, 22 and 333, 2 where it has others, 0 where it is not of the form.
+fn line(card: &[u8], at: usize) -> u64 {
     let Line::Values {
         first,
         second,
@@ -64,56 +54,45 @@ fn good_line(card: &[u8], at: usize) -> u64
     else {
         return 0;
     };
-    if first != 8 {
-        return 0;
-    }
-    if second != 1 {
-        return 0;
-    }
-    if third != 22 {
-        return 0;
-    }
-    if fourth == 333 { 1 } else { 0 }
-}
-
-// 1 where the line at byte `at` is not of the form.
-fn damaged_line(card: &[u8], at: usize) -> u64
-    ensures { λ r. ⌜ r ≤ 1 ⌝ }
-{
-    match text::line_at(card, at) {
-        Line::Values {
-            first: _,
-            second: _,
-            third: _,
-            fourth: _,
-        } => 0,
-        Line::Malformed => 1,
+    if first == 8 && second == 1 && third == 22 && fourth == 333 {
+        1
+    } else {
+        2
     }
 }
 
-// How many of the lines at these bytes are not of the form.
-fn damaged_lines(card: &[u8], places: &[usize]) -> u64 {
+// How many of the lines at these bytes are so.
+fn lines_so(card: &[u8], places: &[usize], due: u64) -> u64 {
     let mut found: u64 = 0;
     let mut t: usize = 0;
     while t < places.len() {
-        found = found % 1000 + damaged_line(card, places[t]);
+        found = found % 1000 + one(line(card, places[t]) == due);
         t += 1;
     }
     found
 }
 
-// The line whole and as a second one; a byte too early and too late; behind the end.
+// The line twice; then each field damaged, no byte 10, and a line cut short. Damaged are also a byte too early and too
+// late, behind the end, and no line.
 fn lines() -> u64 {
-    let card = b"       8       1      22     333\n       8       1      22     333\n";
-    let whole = good_line(card, 0) + good_line(card, 33);
-    whole + damaged_lines(card, &[32, 34, 66, 67, 18446744073709551615]) % 1000
-}
-
-// Each field damaged, no byte 10, and a line cut short; no line.
-fn broken_lines() -> u64 {
     let card =
-        b"      08       1      22     333\n       8              22     333\n       8       1     22      333\n       8       1      22     33x\n       8       1      22     333        8       1      22     333";
-    damaged_lines(card, &[0, 33, 66, 99, 132, 165]) % 1000 + damaged_lines(b"", &[0]) % 1000
+        b"       8       1      22     333\n       8       1      22     333\n      08       1      22     333\n       8              22     333\n       8       1     22      333\n       8       1      22     33x\n       8       1      22     333        8       1      22     333";
+    let damaged = &[
+        32,
+        34,
+        66,
+        99,
+        132,
+        165,
+        198,
+        231,
+        263,
+        264,
+        18446744073709551615,
+    ];
+    lines_so(card, &[0, 33], 1) % 1000
+        + lines_so(card, damaged, 0) % 1000
+        + lines_so(b"", &[0], 0) % 1000
 }
 
 // Writes the values into columns of these widths one behind the other, from byte 1 on, while there is room.
@@ -150,18 +129,9 @@ fn columns() -> u64 {
 }
 
 fn main() {
-    // Damaged: no digit and a leading zero; spaces inside and behind; bytes that are no digits.
-    let good = good_fields(
-        b"       0       9      10 10485761000000099999999",
-        &[0, 9, 10, 1048576, 10000000, 99999999],
-    );
-    let bad = damaged_fields(b"              00      070000000001234567") % 1000
-        + damaged_fields(b"      1      1 212      1      2") % 1000
-        + damaged_fields(b"       /      1:      -1      +1      1a     \t 1      1\n\x00      1")
-            % 1000;
-    print(b"fields ", good);
-    print(b" damaged ", bad);
-    print(b" lines ", lines() % 1000 + broken_lines() % 1000);
+    print(b"fields ", good_fields());
+    print(b" damaged ", damaged_fields());
+    print(b" lines ", lines());
     print(b" columns ", columns());
     io::write_all(1, b"\n");
 }

@@ -1,5 +1,5 @@
--- `card_test::scatter` is safe and ends.
-use Prim.Native.Nat.{_+_, _-_, _≤_}
+-- `scatter` is safe and ends.
+use Prim.Native.Nat.{_-_, _≤_}
 use mathlib.Core.Path.{_≡_}
 use lib.ListN.{length}
 use borrow.Author.Needs.{needs}
@@ -7,34 +7,31 @@ use Rattle.card_test.proofs.scatter.Statement.{statement}
 use Rattle.card_test.proofs.scatter.Tie as tie
 
 abbrev Inv-loop : tie.InvT-loop
-Inv-loop bytes₀ trials i₀ bytes i = (1 ≤ i) × (i ≤ trials + 1) × (length bytes ≡ length bytes₀)
+Inv-loop bytes₀ k₀ bytes k = (length bytes ≡ length bytes₀) × (16962 ≤ length bytes) × (k ≤ 2056)
 
 abbrev μ-loop : tie.MeasureT-loop
-μ-loop bytes₀ trials i₀ bytes i = trials + 1 - i
-
-put-line-requires : tie.Need-put-line-requires Inv-loop μ-loop
-put-line-requires c κs = search needs
+μ-loop bytes₀ k₀ bytes k = 2056 - k
 
 loop-holds : tie.Need-loop-holds Inv-loop μ-loop
 loop-holds c = search needs
 
-mul-put-line : tie.Need-mul-put-line Inv-loop μ-loop
-mul-put-line c = search needs
+mul-put-number : tie.Need-mul-put-number Inv-loop μ-loop
+mul-put-number c = search needs
 
-mul-put-line-2 : tie.Need-mul-put-line-2 Inv-loop μ-loop
-mul-put-line-2 c = search needs
+mul-put-number-2 : tie.Need-mul-put-number-2 Inv-loop μ-loop
+mul-put-number-2 c = search needs
 
-mul-put-line-3 : tie.Need-mul-put-line-3 Inv-loop μ-loop
-mul-put-line-3 c = search needs
+add-put-number : tie.Need-add-put-number Inv-loop μ-loop
+add-put-number c = search needs
 
-mul-put-line-4 : tie.Need-mul-put-line-4 Inv-loop μ-loop
-mul-put-line-4 c = search needs
+value-requires : tie.Need-value-requires Inv-loop μ-loop
+value-requires c κs = search needs
 
-put-line-requires-2 : tie.Need-put-line-requires-2 Inv-loop μ-loop
-put-line-requires-2 c κs = search needs
+put-number-requires : tie.Need-put-number-requires Inv-loop μ-loop
+put-number-requires c κs = search needs
 
-add-i : tie.Need-add-i Inv-loop μ-loop
-add-i c = search needs
+add-k : tie.Need-add-k Inv-loop μ-loop
+add-k c = search needs
 
 loop-less : tie.Need-loop-less Inv-loop μ-loop
 loop-less c = search needs
@@ -54,14 +51,13 @@ scatter-spec =
     (tie.spec
     Inv-loop
     μ-loop
-    put-line-requires
     loop-holds
-    mul-put-line
-    mul-put-line-2
-    mul-put-line-3
-    mul-put-line-4
-    put-line-requires-2
-    add-i
+    mul-put-number
+    mul-put-number-2
+    add-put-number
+    value-requires
+    put-number-requires
+    add-k
     loop-less
     loop-again
     same-length

@@ -13,11 +13,8 @@ abbrev μ-loop : tie.MeasureT-loop
 loop-holds : tie.Need-loop-holds Inv-loop μ-loop
 loop-holds c = search needs
 
-cover-requires : tie.Need-cover-requires Inv-loop μ-loop
-cover-requires c κs = search needs
-
-within-requires : tie.Need-within-requires Inv-loop μ-loop
-within-requires c κs = search needs
+counts-requires : tie.Need-counts-requires Inv-loop μ-loop
+counts-requires c κs = search needs
 
 one-requires : tie.Need-one-requires Inv-loop μ-loop
 one-requires c κs = search needs
@@ -44,8 +41,7 @@ cells-spec =
     Inv-loop
     μ-loop
     loop-holds
-    cover-requires
-    within-requires
+    counts-requires
     one-requires
     add-found
     add-cell
