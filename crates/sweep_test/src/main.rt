@@ -78,46 +78,20 @@ fn right(points: &[u32], reference: Point, u: Point, out: &[u64], n: usize) -> b
     true
 }
 
-// Whether the sweep agrees with the direct count.
-fn sweep_agrees(
-    xs: &[u64],
-    ys: &[u64],
-    zs: &[u64],
-    all: &[u32],
-    reference: Point,
-    out: &mut [u64],
-) -> bool
-    requires { ⌜ Ready (now xs) (now ys) (now zs) (reference .at) (now out) ⌝ }
-{
-    let origin = Point { at: [0, 0, 0] };
-    let total = sweep::sweep(xs, ys, zs, reference, out);
-    total == testing::cells(all, reference, origin, 1, 12)
-        && right(all, reference, origin, out, xs.len())
-}
-
-// Whether the update by u agrees with it.
-fn update_agrees(
-    xs: &[u64],
-    ys: &[u64],
-    zs: &[u64],
-    all: &[u32],
-    reference: Point,
-    u: Point,
-    out: &mut [u64],
-) -> bool
-    requires { ⌜ Ready (now xs) (now ys) (now zs) (reference .at) (now out) × Small (u .at) ⌝ }
-{
-    let gain = corners::update(xs, ys, zs, u, reference, out);
-    gain == testing::cells(all, reference, u, 0, 0) && right(all, reference, u, out, xs.len())
-}
-
+// Whether the sweep and the update by u agree with the direct count.
 fn agree(xs: &[u64], ys: &[u64], zs: &[u64], reference: Point, u: Point, out: &mut [u64]) -> bool
     requires { ⌜ Ready (now xs) (now ys) (now zs) (reference .at) (now out) × Small (u .at) ⌝ }
 {
+    let origin = Point { at: [0, 0, 0] };
     let all = points(xs, ys, zs);
-    let swept = sweep_agrees(xs, ys, zs, &all, reference, out);
-    let updated = update_agrees(xs, ys, zs, &all, reference, u, out);
-    swept && updated
+    let n = xs.len();
+    let total = sweep::sweep(xs, ys, zs, reference, out);
+    let swept = right(&all, reference, origin, out, n);
+    let gain = corners::update(xs, ys, zs, u, reference, out);
+    let updated = right(&all, reference, u, out, n);
+    let total_due = testing::cells(&all, reference, origin, 1, 12);
+    let gain_due = testing::cells(&all, reference, u, 0, 0);
+    swept && updated && total == total_due && gain == gain_due
 }
 
 // The set of this number: up to 12 points, with coordinates below 1 to 10.

@@ -7,20 +7,38 @@ use Rattle.sweep_test.proofs.agree.Tie as tie
 points-requires : tie.Need-points-requires
 points-requires c κs = search needs
 
-slice-aggregate-sweep-agrees : tie.Need-slice-aggregate-sweep-agrees
-slice-aggregate-sweep-agrees c = search needs
+sweep-requires : tie.Need-sweep-requires
+sweep-requires c κs = search needs
 
-sweep-agrees-requires : tie.Need-sweep-agrees-requires
-sweep-agrees-requires c κs = search needs
+slice-aggregate-right : tie.Need-slice-aggregate-right
+slice-aggregate-right c = search needs
 
-slice-aggregate-update-agrees : tie.Need-slice-aggregate-update-agrees
-slice-aggregate-update-agrees c = search needs
+right-requires : tie.Need-right-requires
+right-requires c κs = search needs
 
-update-agrees-requires : tie.Need-update-agrees-requires
-update-agrees-requires c κs =
-    let swept = c .before .before .before .before in
-    let start = swept .before .before .before .before .before .before .before .before in
-    (ready-again (start .pre .0) (swept .sweep-agrees .kept .1 .1 .1 .1 .1 .0), start .pre .1)
+update-requires : tie.Need-update-requires
+update-requires c κs =
+    let swept = c .before .before .before .before .before .before in
+    let start = swept .before .before .before .before .before .before .before in
+    (ready-again (start .pre .0) (swept .sweep .kept .1 .1 .1 .1 .0), start .pre .1)
+
+slice-aggregate-right-2 : tie.Need-slice-aggregate-right-2
+slice-aggregate-right-2 c = search needs
+
+right-requires-2 : tie.Need-right-requires-2
+right-requires-2 c κs = search needs
+
+slice-aggregate-cells : tie.Need-slice-aggregate-cells
+slice-aggregate-cells c = search needs
+
+cells-requires : tie.Need-cells-requires
+cells-requires c κs = search needs
+
+slice-aggregate-cells-2 : tie.Need-slice-aggregate-cells-2
+slice-aggregate-cells-2 c = search needs
+
+cells-requires-2 : tie.Need-cells-requires-2
+cells-requires-2 c κs = search needs
 
 same-length : tie.Need-same-length
 same-length c = search needs
@@ -39,10 +57,16 @@ agree-spec =
     tie.close
     (tie.spec
     points-requires
-    slice-aggregate-sweep-agrees
-    sweep-agrees-requires
-    slice-aggregate-update-agrees
-    update-agrees-requires
+    sweep-requires
+    slice-aggregate-right
+    right-requires
+    update-requires
+    slice-aggregate-right-2
+    right-requires-2
+    slice-aggregate-cells
+    cells-requires
+    slice-aggregate-cells-2
+    cells-requires-2
     same-length
     returns
     same-length-2
