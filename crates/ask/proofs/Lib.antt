@@ -1,3 +1,3 @@
 -- Laws of the counts of an archive's records, for all that ask for them.
-pub mod Points
+pub mod LoadedPoints
 pub mod CountedAmounts

@@ -3,4 +3,4 @@ pub mod Columns
 pub mod MovedAmounts
 pub mod LeaveOut
 pub mod RowAt
-pub mod Laid
+pub mod Stored

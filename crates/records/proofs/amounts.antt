@@ -1,2 +1,2 @@
 -- Laws of the functions that move contributions by amounts.
-pub mod Loops
+pub mod PairLoops

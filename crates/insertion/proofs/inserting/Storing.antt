@@ -13,8 +13,8 @@ use Rattle.words.proofs.Passed.{Passed, passed}
 use Rattle.calls.specs.Calls.{place, insert-gain, lowered, inserted, box-of, insert-overruns}
 use Rattle.records.specs.Columns.{rekept, column}
 use Rattle.calls.proofs.Known.{count-rows, known}
-use Rattle.records.proofs.Laid
-use Rattle.records.proofs.Laid.{rows-put}
+use Rattle.records.proofs.Stored
+use Rattle.records.proofs.Stored.{rows-put}
 use Rattle.slices.specs.Put.{put}
 use Rattle.slices.proofs.Put.{put-over}
 use Rattle.words.proofs.Reading.{length-records}
@@ -71,7 +71,7 @@ insert-stored w w₁ w₂ w₃ vs t h l lower e₁ e₂ e₃ =
     ∙ put-over w 8 (records rows ++ []) (records new)
     (let s : 8 + length (records (map (lowered (read w) t) (read w .rows)) ++ []) ≤ length w = omega arith in s)
     (let s : length (records (map (lowered (read w) t) (read w .rows)) ++ []) ≤ length (records (place (λ r. r .trial) (record { trial = t; kept = insert-gain (read w) t }) (map (lowered (read w) t) (read w .rows)))) = omega arith in s) in
-    Laid.stored w h w₂ w₃ (inserted a t) (word w 0 + 1) 0 refl grown (omega arith) (omega arith)
+    Stored.stored w h w₂ w₃ (inserted a t) (word w 0 + 1) 0 refl grown (omega arith) (omega arith)
     (second ∙ ap (put w 8) (sym (append-nil (records new)))) e₃
 
 pub insertion-stored : (w w₁ w₂ w₃ kept : List ℕ) (t : Trial) (g : ℕ) → InsertReady w t g kept

@@ -26,7 +26,7 @@ use Rattle.records.proofs.LeaveOut.{others-at, row-of-at, length-leave-out}
 use Rattle.calls.proofs.Known.{count-rows, known}
 use Rattle.records.proofs.MovedAmounts.{exceeds-pairs}
 use Rattle.records.proofs.RowAt.{blank, row-there}
-use Rattle.ask.proofs.Points.{left-allowed}
+use Rattle.ask.proofs.LoadedPoints.{left-allowed}
 use Rattle.ask.proofs.CountedAmounts.{amounts-gain, amounts-shares, kept-loaded}
 
 -- The record at a place, by its number: the one of that number, and the others.

@@ -13,8 +13,8 @@ use Rattle.calls.specs.Calls.{row-of, others, without, removal-loss, raised, re
 use Rattle.records.specs.Columns.{rekept, leave-out, column}
 use Rattle.calls.proofs.Known.{count-rows}
 use Rattle.records.proofs.LeaveOut.{length-leave-out}
-use Rattle.records.proofs.Laid
-use Rattle.records.proofs.Laid.{rows-put}
+use Rattle.records.proofs.Stored
+use Rattle.records.proofs.Stored.{rows-put}
 use Rattle.slices.specs.Put.{put}
 use Rattle.slices.proofs.Put.{put-front-over}
 use Rattle.words.proofs.Reading.{length-records}
@@ -89,7 +89,7 @@ remove-stored w w₁ w₂ w₃ vs number k m h s l out raise e₁ e₂ e₃ =
     ∙ ap₂ (λ x y. put x 8 (records (rekept y vs))) e₁ again
     ∙ ap (λ x. put (put w 8 (records left ++ replicate 5 0)) 8 (records x)) raise
     ∙ put-front-over w 8 (records left) (replicate 5 0) (records rows) fits (long ∙ sym left-long) in
-    Laid.stored w h w₂ w₃ (removed a number) m 1 refl (ap length gone ∙ many) (omega arith) (omega arith)
+    Stored.stored w h w₂ w₃ (removed a number) m 1 refl (ap length gone ∙ many) (omega arith) (omega arith)
     (second ∙ ap (λ x. put w 8 (records x ++ replicate 5 0)) (sym gone)) e₃
 
 pub removal-stored : (w w₁ w₂ w₃ kept : List ℕ) (k loss n m : ℕ) → RemoveReady w k loss kept → n ≡ word w 0 → m ≡ n - 1

@@ -4,7 +4,7 @@ use native.Mathlib.Omega.{arith}
 use lib.Seq.{length-take-le}
 use Rattle.words.specs.Format.{shape-allowed}
 use Rattle.calls.proofs.Known.{known}
-use Rattle.ask.proofs.Points.{columns, columns-are-ready, joints-counted}
+use Rattle.ask.proofs.LoadedPoints.{columns, columns-are-ready, joints-counted}
 use borrow.Author.Needs.{needs}
 use Rattle.ask.proofs.counts.count_joints.Statement.{statement}
 use Rattle.ask.proofs.counts.count_joints.Tie as tie

@@ -2,7 +2,7 @@
 use mathlib.Core.Path.{refl}
 use native.Mathlib.Omega.{arith}
 use Rattle.calls.proofs.Known.{known}
-use Rattle.ask.proofs.Points.{points-loaded}
+use Rattle.ask.proofs.LoadedPoints.{points-loaded}
 use borrow.Author.Needs.{needs}
 use Rattle.ask.proofs.counts.load_points.Statement.{statement}
 use Rattle.ask.proofs.counts.load_points.Tie as tie

@@ -10,7 +10,7 @@ use Rattle.words.specs.Format.{coordinates-allowed}
 use Rattle.calls.specs.Lent.{gain-answer, trial-of}
 use Rattle.calls.proofs.Known.{known}
 use Rattle.ask.proofs.questions.Asking.{answer-row, answer-value, gain-refused, gain-passes}
-use Rattle.ask.proofs.Points.{allowed-small}
+use Rattle.ask.proofs.LoadedPoints.{allowed-small}
 use Rattle.ask.proofs.CountedAmounts.{gain-front}
 use borrow.Author.Needs.{needs}
 use Rattle.ask.proofs.questions.gain_in.Statement.{statement}

@@ -11,7 +11,7 @@ use Rattle.words.specs.Format.{shape-allowed}
 use Rattle.words.specs.Places.{as-row}
 use Rattle.calls.specs.Calls.{box-of}
 use Rattle.calls.proofs.Known.{known}
-use Rattle.ask.proofs.Points.{allowed-small}
+use Rattle.ask.proofs.LoadedPoints.{allowed-small}
 use Rattle.ask.proofs.CountedAmounts.{kept-front, shares-front, gain-front, front-of}
 use Rattle.insertion.proofs.inserting.Lowering.{lowered-over, lowered-judged, gain-fits}
 use borrow.Author.Needs.{needs}

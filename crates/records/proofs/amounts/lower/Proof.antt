@@ -5,7 +5,7 @@ use borrow.Author.Needs.{needs}
 use borrow.Author.Tests.{lt-ltb, le-ltb}
 use lib.Dec.{ltb}
 use lib.ListN.{length}
-use Rattle.records.proofs.amounts.Loops.{Moving, moving-none, moving-found, moving-more, moving-end}
+use Rattle.records.proofs.amounts.PairLoops.{Moving, moving-none, moving-found, moving-more, moving-end}
 use Rattle.records.proofs.amounts.lower.Statement.{statement}
 use Rattle.records.proofs.amounts.lower.Tie as tie
 

@@ -6,7 +6,7 @@ use native.Mathlib.Omega.{arith}
 use lib.ListN.{length}
 use lib.Dec.{eqb}
 use borrow.Author.Tests.{eq-eqb, ne-eqb}
-use Rattle.records.proofs.amounts.Loops.{Seeking, seeking-none, seeking-found, seeking-more, seeking-end}
+use Rattle.records.proofs.amounts.PairLoops.{Seeking, seeking-none, seeking-found, seeking-more, seeking-end}
 use Rattle.records.proofs.amounts.some_differs.Statement.{statement}
 use Rattle.records.proofs.amounts.some_differs.Tie as tie
 
