@@ -1,7 +1,6 @@
 // The one counting algorithm of the archive: a sweep over the points in ascending z. It counts the total and every
 // contribution; over the corners with one more point (crate `corners`) it counts what that point would change.
 use hypervolume::Point;
-use hypervolume::number::less;
 ghost use mathlib.Core.Path.{_≡_};
 ghost use mathlib.Core.List.{_++_};
 ghost use lib.ListN.{length, drop};
@@ -18,7 +17,7 @@ pub fn sweep(xs: &[u64], ys: &[u64], zs: &[u64], reference: Point, out: &mut [u6
 {
     let rx = reference.at[0] as u64;
     let ry = reference.at[1] as u64;
-    let rz = reference.at[2] as u64;
+    let rz = reference.at[2];
     let mut line = [0u64; 512];
     let mut m: usize = 0;
     let mut volume: u64 = 0;
@@ -26,7 +25,7 @@ pub fn sweep(xs: &[u64], ys: &[u64], zs: &[u64], reference: Point, out: &mut [u6
     while i < xs.len() {
         let x = xs[i];
         let y = ys[i];
-        let height = less(rz, zs[i]);
+        let height = hypervolume::edge(rz, zs[i] as u32);
         let at = line::rank(&line[..m], x);
         let column = strips::look_back(&line[..at], ry);
         let own = height * strips::strips(&line[..m], at, column, x, y, rx, ry, height, out);

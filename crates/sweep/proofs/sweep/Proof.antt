@@ -30,9 +30,6 @@ cast-ry c = search needs
 element-copy-out-rz : tie.Need-element-copy-out-rz Inv-loop μ-loop
 element-copy-out-rz c = search needs
 
-cast-rz : tie.Need-cast-rz Inv-loop μ-loop
-cast-rz c = search needs
-
 loop-holds : tie.Need-loop-holds Inv-loop μ-loop
 loop-holds c = progress-none (c .before .before .before .before .before .before .before .pre) (search needs) (search needs)
 
@@ -48,14 +45,19 @@ mul-y c = search needs
 shared-slice-read-y : tie.Need-shared-slice-read-y Inv-loop μ-loop
 shared-slice-read-y c = search needs
 
-mul-less : tie.Need-mul-less Inv-loop μ-loop
-mul-less c = search needs
+mul-edge : tie.Need-mul-edge Inv-loop μ-loop
+mul-edge c = search needs
 
-shared-slice-read-less : tie.Need-shared-slice-read-less Inv-loop μ-loop
-shared-slice-read-less c = search needs
+shared-slice-read-edge : tie.Need-shared-slice-read-edge Inv-loop μ-loop
+shared-slice-read-edge c = search needs
 
-less-requires : tie.Need-less-requires Inv-loop μ-loop
-less-requires c κs = search needs
+cast-edge : tie.Need-cast-edge Inv-loop μ-loop
+cast-edge c =
+    let turn = c .before .before .before .before .loop in
+    record { fits = omega (arith, turn .inv .ready .zs-small (turn .i)) }
+
+edge-requires : tie.Need-edge-requires Inv-loop μ-loop
+edge-requires c κs = search needs
 
 array-share-prefix-line : tie.Need-array-share-prefix-line Inv-loop μ-loop
 array-share-prefix-line c = search needs
@@ -64,10 +66,10 @@ slice-aggregate-rank : tie.Need-slice-aggregate-rank Inv-loop μ-loop
 slice-aggregate-rank c = sym (length-take-le _ _ (search needs))
 
 -- the turn that an answer is of
-abbrev turn : tie.After-less Inv-loop μ-loop → tie.In-loop Inv-loop μ-loop
+abbrev turn : tie.After-edge Inv-loop μ-loop → tie.In-loop Inv-loop μ-loop
 turn c = c .before .before .before .before
 
-abbrev ranked : tie.After-rank Inv-loop μ-loop → tie.After-less Inv-loop μ-loop
+abbrev ranked : tie.After-rank Inv-loop μ-loop → tie.After-edge Inv-loop μ-loop
 ranked c = c .before .before
 
 rank-requires : tie.Need-rank-requires Inv-loop μ-loop
@@ -102,9 +104,9 @@ place c = c .before .before
 strips-requires : tie.Need-strips-requires Inv-loop μ-loop
 strips-requires c κs =
     let seen = c .before .before in
-    let less = ranked (place seen) in
-    let here = turn less in
-    progress-crossing (here .before .loop .inv) (here .loop-test .taken) (less .less .ensures) (place seen .rank .ensures) (seen .look-back .ensures)
+    let edge = ranked (place seen) in
+    let here = turn edge in
+    progress-crossing (here .before .loop .inv) (here .loop-test .taken) (edge .edge .ensures) (place seen .rank .ensures) (seen .look-back .ensures)
 
 abbrev looked : tie.After-strips Inv-loop μ-loop → tie.After-look-back Inv-loop μ-loop
 looked c = c .before .before .before
@@ -112,10 +114,10 @@ looked c = c .before .before .before
 mul-own : tie.Need-mul-own Inv-loop μ-loop
 mul-own c =
     let crossed = c .before .before in
-    let less = ranked (place (looked crossed)) in
-    let here = turn less in
+    let edge = ranked (place (looked crossed)) in
+    let here = turn edge in
     record {
-      fits = progress-own (here .before .loop .inv) (here .loop-test .taken) (less .less .ensures) (crossed .strips .ensures);
+      fits = progress-own (here .before .loop .inv) (here .loop-test .taken) (edge .edge .ensures) (crossed .strips .ensures);
     }
 
 mul-out : tie.Need-mul-out Inv-loop μ-loop
@@ -127,10 +129,10 @@ slice-write-out c = search needs
 add-volume : tie.Need-add-volume Inv-loop μ-loop
 add-volume c =
     let crossed = c .before .before in
-    let less = ranked (place (looked crossed)) in
-    let here = turn less in
+    let edge = ranked (place (looked crossed)) in
+    let here = turn edge in
     record {
-      fits = progress-fits (here .before .loop .inv) (here .loop-test .taken) (less .less .ensures) (crossed .strips .ensures);
+      fits = progress-fits (here .before .loop .inv) (here .loop-test .taken) (edge .edge .ensures) (crossed .strips .ensures);
     }
 
 slice-aggregate-enter : tie.Need-slice-aggregate-enter Inv-loop μ-loop
@@ -162,9 +164,9 @@ loop-again c =
     let entry = entered .before in
     let crossed = entry .before .before .before .before in
     let seen = looked crossed in
-    let less = ranked (place seen) in
-    let here = turn less in
-    progress-more (here .before .loop .inv) (here .loop-test .taken) (less .less .ensures) (crossed .strips .ensures) refl
+    let edge = ranked (place seen) in
+    let here = turn edge in
+    progress-more (here .before .loop .inv) (here .loop-test .taken) (edge .edge .ensures) (crossed .strips .ensures) refl
     (crossed .strips .kept .1 .1 .1 .1 .1 .1 .1 .1 .0)
     (entry .entry .ensures)
     (entered .enter .ensures _ (seen .look-back .ensures .state))
@@ -187,15 +189,15 @@ sweep-spec =
     element-copy-out-ry
     cast-ry
     element-copy-out-rz
-    cast-rz
     loop-holds
     mul-x
     shared-slice-read-x
     mul-y
     shared-slice-read-y
-    mul-less
-    shared-slice-read-less
-    less-requires
+    mul-edge
+    shared-slice-read-edge
+    cast-edge
+    edge-requires
     array-share-prefix-line
     slice-aggregate-rank
     rank-requires
