@@ -13,14 +13,6 @@ fn point(row: [u64; 7]) -> Point {
     Point::new(row[2] % 16777216, row[3] % 16777216, row[4] % 16777216)
 }
 
-// The answer of a call that says no more than whether it is done.
-fn plain(refusal: u64) -> Answer {
-    Answer {
-        refusal: refusal,
-        value: 0,
-    }
-}
-
 fn reduce_into(w: &mut [u64], keep: u64, log: &mut [u64], n: usize) -> Answer
     requires { ⌜ n ≤ length (now log) ⌝ }
 {
@@ -34,7 +26,7 @@ fn reduce(w: &mut [u64], row: [u64; 7]) -> Answer {
     if a.refusal == 0 || testing::filled(&log, 0, 7) {
         return a;
     }
-    plain(99)
+    Answer::refused(99)
 }
 
 // Another call that writes; its refusal.
@@ -55,9 +47,9 @@ fn change(w: &mut [u64], name: u8, row: [u64; 7]) -> Answer {
     }
     if name == b'p' {
         testing::put(w, row[1] as usize, row[2]);
-        return plain(0);
+        return Answer::done(0);
     }
-    plain(written(w, name, row[1], point(row)))
+    Answer::refused(written(w, name, row[1], point(row)))
 }
 
 // The least contributor, as one number.
@@ -84,10 +76,7 @@ fn answer(w: &[u64], name: u8, row: [u64; 7]) -> Answer {
         return ask::share(w);
     }
     if name == b'w' {
-        return Answer {
-            refusal: 0,
-            value: at(w, row[1] as usize),
-        };
+        return Answer::done(at(w, row[1] as usize));
     }
     ask::audit(w)
 }
