@@ -15,7 +15,8 @@ use Rattle.hypervolume.specs.Cells.{holds, dominates, join, sum, cells, 
 use Rattle.hypervolume.specs.Counts.{cover, total, contribution, joint, gain}
 use Rattle.hypervolume.proofs.Sums.{sum-none, sum-steady, cells-ext, cells-add, cells-le, cells-none}
 use Rattle.hypervolume.proofs.Tests.{holds-le-one}
-use Rattle.hypervolume.proofs.Dominance.{dominates-join, within, cover-append, cover-joins, Among, at-most, at-most-dominates}
+use Rattle.hypervolume.proofs.Dominance.{dominates-join, within, cover-append, cover-joins, Among, first, rest, at-most, at-most-dominates}
+use Rattle.slices.proofs.Choices.{both-intro}
 
 -- Counts respect equality, sums and order.
 pub count-ext : (r : List ℕ) (p q : List ℕ → Bool) → ((c : List ℕ) → p c ≡ q c) → count r p ≡ count r q
@@ -263,3 +264,15 @@ twice-of front back more p q s hp hq c d =
     let one : holds (dominates p c) ≡ 1 = ap holds p-too in
     let two : holds (dominates q c) ≡ 1 = ap holds q-too in
     omega arith
+
+-- "Of two equal trials each contributes 0."
+at-most-self : (t : List ℕ) → at-most t t ≡ true
+unfolding at-most first rest
+at-most-self [] = refl
+at-most-self (x ∷ t) = both-intro (leb x x) (at-most t t) (le-leb x x (omega arith)) (at-most-self t)
+
+pub equal-trials-contribute-0 : (r : List ℕ) (front back more : List (List ℕ)) (t : List ℕ) → contribution r (front ++ (t ∷ (back ++ (t ∷ more)))) t ≡ 0
+unfolding contribution Twice
+equal-trials-contribute-0 r front back more t =
+    let twice : Twice (front ++ (t ∷ (back ++ (t ∷ more)))) t = twice-of front back more t t t (at-most-self t) (at-most-self t) in
+    count-none r _ (λ c. twice-not 1 (omega arith) (dominates t c) (cover (front ++ (t ∷ (back ++ (t ∷ more)))) c) (twice c))
