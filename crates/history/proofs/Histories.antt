@@ -26,7 +26,7 @@ fresh-size : (s : Shape) (rest w : List ℕ) (b : Book) → Holds s rest b w →
 unfolding shape-of-book
 fresh-size s rest w b h = fresh-length s rest w b h ∙ ap (λ t. extent (t .capacity)) (h .shape)
 
-holds-size : (s : Shape) (rest w : List ℕ) (b : Book) → Holds s rest b w → length w ≡ extent (s .capacity) + length rest
+pub holds-size : (s : Shape) (rest w : List ℕ) (b : Book) → Holds s rest b w → length w ≡ extent (s .capacity) + length rest
 unfolding shape-of-book
 holds-size s rest w b h =
     holds-length s rest w b h ∙ ap (λ t. extent (t .capacity) + length rest) (h .shape)
@@ -80,10 +80,10 @@ started before s e =
     }
 
 -- The words before the extent and behind it.
-holds-front : (s : Shape) (rest w : List ℕ) (b : Book) → Holds s rest b w → take (extent (s .capacity)) w ≡ fresh b
+pub holds-front : (s : Shape) (rest w : List ℕ) (b : Book) → Holds s rest b w → take (extent (s .capacity)) w ≡ fresh b
 holds-front s rest w b h = rw (h .words) (take-at (fresh b) rest (extent (s .capacity)) (fresh-size s rest w b h))
 
-holds-behind : (s : Shape) (rest w : List ℕ) (b : Book) → Holds s rest b w → drop (extent (s .capacity)) w ≡ rest
+pub holds-behind : (s : Shape) (rest w : List ℕ) (b : Book) → Holds s rest b w → drop (extent (s .capacity)) w ≡ rest
 holds-behind s rest w b h = rw (h .words) (drop-at (fresh b) rest (extent (s .capacity)) (fresh-size s rest w b h))
 
 module _ (before begun : List ℕ) (s : Shape) (b : Book) (h : Begun before begun s b) (calls : List Call) where
