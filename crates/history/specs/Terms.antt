@@ -1,4 +1,5 @@
--- Terms 2 and 3 of document 00, each as one statement. Their proofs are in proofs/Terms.
+-- Terms 2 and 3 of document 00, each as one statement, after a start. Their proofs are in proofs/Terms. The crate terms says
+-- the same after a loading.
 use Prim.Native.Nat.{ℕ}
 use mathlib.Core.Path.{_≡_}
 use mathlib.Core.List.{List}

@@ -1,17 +1,18 @@
 -- Words from 8 + 5 × capacity on are neither read nor written: the proof, by three forms of calls. A question answers by
 -- its rows and the archive that it reads; insert, remove and reduce write a new archive besides; start and loading go by
 -- the capacity given.
-use Prim.Native.Nat.{ℕ, zero, suc, _+_, _-_, _*_, _≤_}
+use Prim.Native.Nat.{ℕ, zero, suc, _+_, _-_, _*_, _≤_, min}
 use mathlib.Core.Path.{_≡_, refl, sym, ap, _∙_}
-use mathlib.Core.Bool.{Bool, not}
+use mathlib.Core.Bool.{Bool, true, false, not}
 use mathlib.Core.List.{List, _∷_, _++_, map, []}
 use mathlib.Core.Option.{Option, none, some}
 use native.Mathlib.Omega.{arith}
-use lib.Dec.{ltb}
-use lib.ListN.{length, getD, take, drop}
-use lib.Seq.{take-at, drop-at}
+use lib.Dec.{leb, ltb}
+use lib.ListN.{length, getD, take, drop, length-take}
+use lib.Seq.{take-all, take-at, drop-at}
 use borrow.Author.Tests.{ltb-false, le-ltb, not-false}
 use Rattle.hypervolume.specs.Cells.{holds}
+use Rattle.hypervolume.proofs.Tests.{Compared, below, above, compared}
 use Rattle.text.specs.Lines.{Numbers}
 use Rattle.words.specs.Archive.{Trial, Shape, Archive}
 use Rattle.words.specs.Layout.{extent, layout, word, read-shape, read, behind}
@@ -28,14 +29,14 @@ use Rattle.calls.proofs.Sound.{insert-passed, remove-passed, inserted-sound, re
 use Rattle.calls.proofs.Drops.{drops-down}
 use Rattle.card.specs.Card
 use Rattle.card.specs.Card.{shape-on, lines, refused, accepted}
-use Rattle.card.specs.Verdict.{Verdict, refusal, archive, shape-rows, in-turn, judge-further, judge, carried-out}
+use Rattle.card.specs.Verdict.{Verdict, refusal, archive, shape-rows, judge, carried-out}
 use Rattle.card.proofs.Judging.{loads}
 use Rattle.card.proofs.Theorems.{same-answer}
 use Rattle.history.proofs.Histories.{holds-front, holds-behind}
 use Rattle.reports.specs.Report
 use Rattle.reports.specs.Report.{report-text, report-rows, output, reported}
 use Rattle.terms.specs.Loading.{no-numbers, numbers-on, card-shape}
-use Rattle.terms.specs.Behind.{ArchiveCall, written, answered, result, capacity-for, reach, AlikeBefore, DoneAlike, WordsBehind}
+use Rattle.terms.specs.Behind.{ArchiveCall, written, only-read, result, capacity-for, reach, DoneAlike, WordsBehind}
 use Rattle.terms.proofs.Loading.{card-begun}
 use Rattle.terms.proofs.Seen.{Alike, Seen, turned-down, held, seen}
 
@@ -51,7 +52,7 @@ passes w b a e s rest = ap (λ k. archive-rows k rest) e ∙ sound-passes a b re
 
 -- Questions: what comes of the refusal and of the archive that is read, where a refusal leaves nothing of the archive.
 question : {A : Type 0} (rows : Archive → ℕ) (f : ℕ → Archive → A) → ((n : ℕ) (a b : Archive) → f (suc n) a ≡ f (suc n) b)
-    → (v w : List ℕ) → Alike v w → f (archive-rows v (rows (read v))) (read v) ≡ f (archive-rows w (rows (read w))) (read w)
+    → (v w : List ℕ) → Alike (extent (word v 1)) v w → f (archive-rows v (rows (read v))) (read v) ≡ f (archive-rows w (rows (read w))) (read w)
 question rows f k v w h = go (seen v w h)
   where
     go : Seen v w → f (archive-rows v (rows (read v))) (read v) ≡ f (archive-rows w (rows (read w))) (read w)
@@ -60,7 +61,7 @@ question rows f k v w h = go (seen v w h)
     go (held a b c s e d) =
         rw (reads v b a e, reads w c a d, passes v b a e s (rows a), passes w c a d s (rows a))
 
-answers-alike : (rows value : Archive → ℕ) (v w : List ℕ) → Alike v w
+answers-alike : (rows value : Archive → ℕ) (v w : List ℕ) → Alike (extent (word v 1)) v w
     → answer (archive-rows v (rows (read v))) (value (read v)) ≡ answer (archive-rows w (rows (read w))) (value (read w))
 unfolding answer
 answers-alike rows value v w h = question rows (λ k a. answer k (value a)) (λ n a b. refl) v w h
@@ -108,7 +109,7 @@ outcome-held d log w b a e s =
     let after : behind w ≡ b = ap behind e ∙ behind-layout a b (s .held-within) in
     rw (reads w b a e, passes w b a e s (d .rows a), after)
 
-deed-alike : (d : Deed) (log v w : List ℕ) → Alike v w → LeftAlike (extent (word v 1)) (outcome d log v) (outcome d log w)
+deed-alike : (d : Deed) (log v w : List ℕ) → Alike (extent (word v 1)) v w → LeftAlike (extent (word v 1)) (outcome d log v) (outcome d log w)
 unfolding read read-shape
 deed-alike d log v w h = go (seen v w h)
   where
@@ -185,13 +186,11 @@ start-rows-long : (w : List ℕ) (s : Shape) → extent (s .capacity) ≤ length
 unfolding start-rows guard
 start-rows-long w s l = rw (le-ltb (length w) (extent (s .capacity)) l)
 
-start-alike : (s : Shape) (v w : List ℕ) → extent (s .capacity) ≤ length v → extent (s .capacity) ≤ length w
-    → take (extent (s .capacity)) v ≡ take (extent (s .capacity)) w
-    → LeftAlike (extent (s .capacity)) (Lent.start v s) (Lent.start w s)
+start-alike : (s : Shape) (v w : List ℕ) → Alike (extent (s .capacity)) v w → LeftAlike (extent (s .capacity)) (Lent.start v s) (Lent.start w s)
 unfolding Lent.start
-start-alike s v w l m same =
-    rw (start-rows-long v s l, start-rows-long w s m)
-    (leaves-alike v w [] _ 0 (layout (empty s)) _ _ [] (extent (s .capacity)) same (λ z. empty-fits s))
+start-alike s v w h =
+    rw (start-rows-long v s (h .long), start-rows-long w s (h .long-too))
+    (leaves-alike v w [] _ 0 (layout (empty s)) _ _ [] (extent (s .capacity)) (h .same) (λ z. empty-fits s))
 
 start-behind : (s : Shape) (w : List ℕ) → drop (extent (s .capacity)) (Lent.start w s .words) ≡ drop (extent (s .capacity)) w
 unfolding Lent.start
@@ -206,13 +205,12 @@ judge-alike m n (none ∷ ls) e q l h = refl
 judge-alike m n (some v ∷ ls) e q l h =
     rw (← q, le-ltb m e l, le-ltb n e h)
 
-load-answers : (v w card : List ℕ) → extent (card-shape card .capacity) ≤ length v → extent (card-shape card .capacity) ≤ length w
-    → Card.load v card .answer ≡ Card.load w card .answer
+load-answers : (v w card : List ℕ) → Alike (extent (card-shape card .capacity)) v w → Card.load v card .answer ≡ Card.load w card .answer
 unfolding card-shape
-load-answers v w card l h =
+load-answers v w card h =
     ap (λ k. k .answer) (loads v card)
     ∙ same-answer v w (judge (length v) (lines card))
-    ∙ ap (λ j. carried-out w j .answer) (judge-alike (length v) (length w) (lines card) _ refl l h)
+    ∙ ap (λ j. carried-out w j .answer) (judge-alike (length v) (length w) (lines card) _ refl (h .long) (h .long-too))
     ∙ sym (ap (λ k. k .answer) (loads w card))
 
 verdict-refused : (w : List ℕ) (v : Verdict) (n : ℕ) → carried-out w v .answer .refusal ≡ suc n → carried-out w v .words ≡ w
@@ -225,19 +223,19 @@ load-refused w card n e =
     ap (λ k. k .words) (loads w card)
     ∙ verdict-refused w (judge (length w) (lines card)) n (ap (λ k. k .answer .refusal) (sym (loads w card)) ∙ e)
 
-load-words : (v w card : List ℕ) (e : ℕ) → e ≡ extent (card-shape card .capacity) → take e v ≡ take e w
-    → Card.load v card .answer ≡ Card.load w card .answer → take e (Card.load v card .words) ≡ take e (Card.load w card .words)
-load-words v w card e size same alike = go (Card.load v card .answer .refusal) refl
+load-words : (v w card : List ℕ) → Alike (extent (card-shape card .capacity)) v w
+    → take (extent (card-shape card .capacity)) (Card.load v card .words) ≡ take (extent (card-shape card .capacity)) (Card.load w card .words)
+load-words v w card h = go (Card.load v card .answer .refusal) refl
   where
     too : (k : ℕ) → Card.load v card .answer .refusal ≡ k → Card.load w card .answer .refusal ≡ k
-    too k q = ap (λ a. a .refusal) (sym alike) ∙ q
+    too k q = ap (λ a. a .refusal) (sym (load-answers v w card h)) ∙ q
 
-    go : (k : ℕ) → Card.load v card .answer .refusal ≡ k → take e (Card.load v card .words) ≡ take e (Card.load w card .words)
+    go : (k : ℕ) → Card.load v card .answer .refusal ≡ k
+        → take (extent (card-shape card .capacity)) (Card.load v card .words) ≡ take (extent (card-shape card .capacity)) (Card.load w card .words)
     go zero q =
-        rw size
-        (holds-front (card-shape card) _ _ _ (card-begun v card q .holds)
-        ∙ sym (holds-front (card-shape card) _ _ _ (card-begun w card (too 0 q) .holds)))
-    go (suc n) q = rw (load-refused v card n q, load-refused w card n (too (suc n) q)) same
+        holds-front (card-shape card) _ _ _ (card-begun v card q .holds)
+        ∙ sym (holds-front (card-shape card) _ _ _ (card-begun w card (too 0 q) .holds))
+    go (suc n) q = rw (load-refused v card n q, load-refused w card n (too (suc n) q)) (h .same)
 
 load-behind : (w card : List ℕ) → drop (extent (card-shape card .capacity)) (Card.load w card .words) ≡ drop (extent (card-shape card .capacity)) w
 load-behind w card = go (Card.load w card .answer .refusal) refl
@@ -247,62 +245,71 @@ load-behind w card = go (Card.load w card .answer .refusal) refl
     go zero q = holds-behind (card-shape card) _ _ _ (card-begun w card q .holds)
     go (suc n) q = rw (load-refused w card n q)
 
--- What a call that goes by word 1 sees of two slices.
-sees : (c : ArchiveCall) (v w : List ℕ) → reach c v ≡ extent (word v 1) → AlikeBefore c v w → Alike v w
-sees c v w e h = record { long = rw (← e) (h .first-long); long-too = rw (← e) (h .second-long); same = rw (← e) (h .same) }
-
+-- What the call leaves and answers, by its outcomes.
 outcomes-alike : (c : ArchiveCall) (v w : List ℕ) (o p : Outcome) → result c v ≡ written o → result c w ≡ written p
     → LeftAlike (reach c v) o p → DoneAlike c v w
 unfolding written
 outcomes-alike c v w o p e f l = record { answer = rw (e, f) (l .answer); words = rw (e, f) (l .words); other = rw (e, f) (l .log) }
 
-abbrev numbers-of : Answer → List ℕ
-numbers-of a = a .refusal ∷ a .value ∷ []
+abbrev as-numbers : Answer → List ℕ
+as-numbers a = a .refusal ∷ a .value ∷ []
 
-not-read : (c : ArchiveCall) (v w : List ℕ) → AlikeBefore c v w → DoneAlike c v w
-unfolding reach capacity-for result answered insert-deed remove-deed reduce-deed Lent.insert Lent.remove Lent.reduce Lent.least Lent.joint Lent.gain-answer Lent.share Lent.audit Report.report reported report-rows least-answer output
-not-read (ArchiveCall.start s) v w h =
-    outcomes-alike _ v w _ _ refl refl (start-alike s v w (h .first-long) (h .second-long) (h .same))
-not-read (ArchiveCall.insert t) v w h =
-    outcomes-alike _ v w _ _ refl refl (deed-alike (insert-deed t) [] v w (sees _ v w refl h))
-not-read (ArchiveCall.remove n) v w h =
-    outcomes-alike _ v w _ _ refl refl (deed-alike (remove-deed n) [] v w (sees _ v w refl h))
-not-read (ArchiveCall.reduce k log) v w h =
-    outcomes-alike _ v w _ _ refl refl (deed-alike (reduce-deed k (length log)) log v w (sees _ v w refl h))
-not-read ArchiveCall.least v w h =
-    let same =
-    question least-rows (λ n a. least-answer n (least-row (a .rows))) (λ n a b. refl) v w (sees _ v w refl h) in
+long-alike : (c : ArchiveCall) (v w : List ℕ) → Alike (reach c v) v w → DoneAlike c v w
+unfolding reach capacity-for extent result only-read insert-deed remove-deed reduce-deed Lent.insert Lent.remove Lent.reduce Lent.least Lent.joint Lent.gain-answer Lent.share Lent.audit Report.report reported report-rows least-answer output
+long-alike (ArchiveCall.start s) v w h =
+    outcomes-alike _ v w _ _ refl refl (start-alike s v w h)
+long-alike (ArchiveCall.insert t) v w h =
+    outcomes-alike _ v w _ _ refl refl (deed-alike (insert-deed t) [] v w h)
+long-alike (ArchiveCall.remove n) v w h =
+    outcomes-alike _ v w _ _ refl refl (deed-alike (remove-deed n) [] v w h)
+long-alike (ArchiveCall.reduce k log) v w h =
+    outcomes-alike _ v w _ _ refl refl (deed-alike (reduce-deed k (length log)) log v w h)
+long-alike ArchiveCall.least v w h =
+    let same = question least-rows (λ n a. least-answer n (least-row (a .rows))) (λ n a b. refl) v w h in
     record { answer = ap (λ a. a .refusal ∷ a .number ∷ a .contribution ∷ []) same; words = h .same; other = refl }
-not-read (ArchiveCall.joint m n) v w h =
-    let same = answers-alike (λ a. joint-rows a m n) (λ a. joint-of a m n) v w (sees _ v w refl h) in
-    record { answer = ap numbers-of same; words = h .same; other = refl }
-not-read (ArchiveCall.gain p) v w h =
-    let same = answers-alike (λ a. gain-rows a p) (λ a. insert-gain a p) v w (sees _ v w refl h) in
-    record { answer = ap numbers-of same; words = h .same; other = refl }
-not-read ArchiveCall.share v w h =
-    let same = answers-alike (λ a. 0) share-of v w (sees _ v w refl h) in
-    record { answer = ap numbers-of same; words = h .same; other = refl }
-not-read ArchiveCall.audit v w h =
-    let same = answers-alike (λ a. 0) (λ a. holds (audited a)) v w (sees _ v w refl h) in
-    record { answer = ap numbers-of same; words = h .same; other = refl }
-not-read (ArchiveCall.load card) v w h =
-    let same = load-answers v w card (h .first-long) (h .second-long) in
+long-alike (ArchiveCall.joint m n) v w h =
+    let same = answers-alike (λ a. joint-rows a m n) (λ a. joint-of a m n) v w h in
+    record { answer = ap as-numbers same; words = h .same; other = refl }
+long-alike (ArchiveCall.gain p) v w h =
+    let same = answers-alike (λ a. gain-rows a p) (λ a. insert-gain a p) v w h in
+    record { answer = ap as-numbers same; words = h .same; other = refl }
+long-alike ArchiveCall.share v w h =
+    let same = answers-alike (λ a. 0) share-of v w h in
+    record { answer = ap as-numbers same; words = h .same; other = refl }
+long-alike ArchiveCall.audit v w h =
+    let same = answers-alike (λ a. 0) (λ a. holds (audited a)) v w h in
+    record { answer = ap as-numbers same; words = h .same; other = refl }
+long-alike (ArchiveCall.load card) v w h =
     record {
-      answer = ap (λ a. a .refusal ∷ a .line ∷ a .count ∷ []) same;
-      words = load-words v w card (extent (card-shape card .capacity)) refl (h .same) same;
+      answer = ap (λ a. a .refusal ∷ a .line ∷ a .count ∷ []) (load-answers v w card h);
+      words = load-words v w card h;
       other = refl;
     }
-not-read (ArchiveCall.report out) v w h =
+long-alike (ArchiveCall.report out) v w h =
     let rows : Archive → ℕ = λ a. guard (ltb (length out) (53 * (length (a .rows) + 1))) 16 0 in
-    let same = answers-alike rows (λ a. length (report-text a)) v w (sees _ v w refl h) in
+    let same = answers-alike rows (λ a. length (report-text a)) v w h in
     record {
-      answer = ap numbers-of same;
+      answer = ap as-numbers same;
       words = h .same;
-      other = question rows (λ n a. output n (report-text a) out) (λ n a b. refl) v w (sees _ v w refl h);
+      other = question rows (λ n a. output n (report-text a) out) (λ n a b. refl) v w h;
     }
 
+-- Slices that agree are both long enough, or are equal.
+not-read : (c : ArchiveCall) (v w : List ℕ) → take (reach c v) v ≡ take (reach c v) w → DoneAlike c v w
+not-read c v w same = go (leb (reach c v) (length v)) (compared (reach c v) (length v))
+  where
+    sizes : min (reach c v) (length v) ≡ min (reach c v) (length w)
+    sizes = sym (length-take (reach c v) v) ∙ ap length same ∙ length-take (reach c v) w
+
+    go : (x : Bool) → Compared (reach c v) (length v) x → DoneAlike c v w
+    go true (below l) = long-alike c v w (record { long = l; long-too = omega (arith, sizes); same = same })
+    go false (above l) =
+        let equal : v ≡ w =
+        sym (take-all (reach c v) v (omega arith)) ∙ same ∙ take-all (reach c v) w (omega (arith, sizes)) in
+        rw (← equal) (record { answer = refl; words = refl; other = refl })
+
 not-written : (c : ArchiveCall) (w : List ℕ) → drop (reach c w) (result c w .words) ≡ drop (reach c w) w
-unfolding reach capacity-for result written answered insert-deed remove-deed reduce-deed Lent.insert Lent.remove Lent.reduce
+unfolding reach capacity-for extent result written only-read insert-deed remove-deed reduce-deed Lent.insert Lent.remove Lent.reduce
 not-written (ArchiveCall.start s) w = start-behind s w
 not-written (ArchiveCall.insert t) w = deed-behind (insert-deed t) [] w
 not-written (ArchiveCall.remove n) w = deed-behind (remove-deed n) [] w

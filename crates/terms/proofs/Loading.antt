@@ -3,7 +3,7 @@
 use Prim.Native.Nat.{ℕ, zero, suc, _+_, _≤_}
 use mathlib.Core.Path.{_≡_, refl, sym, ap, _∙_}
 use mathlib.Core.Bool.{Bool, true, false}
-use mathlib.Core.List.{List, _∷_, _++_, map, append-nil, []}
+use mathlib.Core.List.{List, _∷_, map, append-nil, []}
 use mathlib.Core.Option.{Option, none, some}
 use native.Mathlib.Omega.{arith}
 use lib.ListN.{length, getD, take, drop, drop-of-length-le}
@@ -21,7 +21,7 @@ use Rattle.history.specs.Terms.{opened-by}
 use Rattle.history.proofs.Steps.{Holds, Agree, step}
 use Rattle.history.proofs.Histories.{holds-size, Begun, started, whole-history, history}
 use Rattle.history.proofs.Kept.{holds-just, keeps-counts}
-use Rattle.terms.specs.Loading.{no-numbers, numbers-on, card-shape, card-trials, all-entered, card-book, insertions, done, AsCalls, AfterLoading, TermsAfterLoading}
+use Rattle.terms.specs.Loading.{no-numbers, numbers-on, card-shape, card-trials, all-entered, card-book, card-insertions, done, AsCalls, AfterLoading, TermsAfterLoading}
 
 -- A line that is not refused leaves the verdict to the rest of the card.
 judged-done : (before : List ℕ) (k line : ℕ) (rest : Loading) → judged before k line rest .answer .refusal ≡ 0
@@ -69,9 +69,12 @@ inserts s rest w b size long h t e =
       holds = rw (← book-entered _ t b unrefused, ← same) (now .holds);
     }
 
--- The trials on these lines.
+-- The trials on these lines, and their insertions.
 abbrev trials-on : List (Option Numbers) → List Trial
 trials-on ls = map trial-on (map numbers-on ls)
+
+abbrev insertions : ℕ → List Trial → List Call
+insertions size ts = map (Call.insert size) ts
 
 -- The further lines of an accepted card. So far w are the words, b is the book and n the count of trials.
 record Inserted (s : Shape) (rest before w : List ℕ) (b : Book) (n size : ℕ) (ls : List (Option Numbers)) : Type 0 where
@@ -84,7 +87,7 @@ record Inserted (s : Shape) (rest before w : List ℕ) (b : Book) (n size : ℕ)
 further-inserted : (s : Shape) (rest before w : List ℕ) (b : Book) (n size : ℕ) → size ≡ extent (s .capacity) + length rest
     → Holds s rest b w → (ls : List (Option Numbers)) → further before w n ls .answer .refusal ≡ 0
     → Inserted s rest before w b n size ls
-unfolding further further-line by-form malformed accepted judged refused numbers-on insertions run-answers run-words all-entered
+unfolding further further-line by-form malformed accepted judged refused numbers-on run-answers run-words all-entered
 further-inserted s rest before w b n size long h [] e =
     record { form = refl; answers = refl; words = refl; count = omega arith; holds = h }
 further-inserted s rest before w b n size long h (none ∷ ls) e = absurd (let no : ⊥ = omega arith in no)
@@ -104,7 +107,7 @@ further-inserted s rest before w b n size long h (some v ∷ ls) e =
     }
 
 -- A whole card that is accepted, by its lines.
-record Loaded (before : List ℕ) (ls : List (Option Numbers)) (s : Shape) (ts : List Trial) : Type 0 where
+record CardDone (before : List ℕ) (ls : List (Option Numbers)) (s : Shape) (ts : List Trial) : Type 0 where
   line-1 : 1 ≤ length ls
   form : ls ≡ map some (map numbers-on ls)
   start-done : start before s .refusal ≡ 0
@@ -113,12 +116,12 @@ record Loaded (before : List ℕ) (ls : List (Option Numbers)) (s : Shape) (ts :
   count : from-first before ls .answer .count ≡ length ts
   begun : Begun before (from-first before ls .words) s (all-entered ts (opened-by s))
 
-loaded : (before : List ℕ) (ls : List (Option Numbers)) → from-first before ls .answer .refusal ≡ 0
-    → Loaded before ls (shape-on (getD (map numbers-on ls) 0 no-numbers)) (map trial-on (drop 1 (map numbers-on ls)))
+card-lines-done : (before : List ℕ) (ls : List (Option Numbers)) → from-first before ls .answer .refusal ≡ 0
+    → CardDone before ls (shape-on (getD (map numbers-on ls) 0 no-numbers)) (map trial-on (drop 1 (map numbers-on ls)))
 unfolding from-first first-line by-form malformed judged refused numbers-on
-loaded before [] e = absurd (let no : ⊥ = omega arith in no)
-loaded before (none ∷ ls) e = absurd (let no : ⊥ = omega arith in no)
-loaded before (some v ∷ ls) e =
+card-lines-done before [] e = absurd (let no : ⊥ = omega arith in no)
+card-lines-done before (none ∷ ls) e = absurd (let no : ⊥ = omega arith in no)
+card-lines-done before (some v ∷ ls) e =
     let s : Shape = shape-on v in
     let d = judged-done before (start before s .refusal) 1 (further before (start before s .words) 0 ls) e in
     let begun : Begun before (start before s .words) s (opened-by s) = started before s (d .0) in
@@ -136,14 +139,14 @@ loaded before (some v ∷ ls) e =
       begun = record { size = begun .size; holds = rw (d .1) (all .holds) };
     }
 
-card-loaded : (before card : List ℕ) → load before card .answer .refusal ≡ 0 → Loaded before (lines card) (card-shape card) (card-trials card)
+card-done : (before card : List ℕ) → load before card .answer .refusal ≡ 0 → CardDone before (lines card) (card-shape card) (card-trials card)
 unfolding load card-shape card-trials
-card-loaded before card e = loaded before (lines card) e
+card-done before card e = card-lines-done before (lines card) e
 
 as-calls : (before card : List ℕ) → load before card .answer .refusal ≡ 0 → AsCalls before card
-unfolding load
+unfolding load card-insertions
 as-calls before card e =
-    let l = card-loaded before card e in
+    let l = card-done before card e in
     record {
       line-1 = l .line-1;
       form = l .form;
@@ -156,9 +159,9 @@ as-calls before card e =
 pub card-begun : (before card : List ℕ) → load before card .answer .refusal ≡ 0
     → Begun before (load before card .words) (card-shape card) (card-book card)
 unfolding load card-book
-card-begun before card e = card-loaded before card e .begun
+card-begun before card e = card-done before card e .begun
 
-pub after-loading : (before card : List ℕ) (calls : List Call) → load before card .answer .refusal ≡ 0 → AfterLoading before card calls
+after-loading : (before card : List ℕ) (calls : List Call) → load before card .answer .refusal ≡ 0 → AfterLoading before card calls
 after-loading before card calls e =
     let begun = card-begun before card e in
     let run = whole-history before (load before card .words) (card-shape card) (card-book card) begun calls in

@@ -15,30 +15,30 @@ use Rattle.words.specs.Places.{Headed}
 use Rattle.words.proofs.Reading.{length-layout}
 use Rattle.words.proofs.Passed.{Sound, passed, row-3-decides}
 
--- Two slices that agree before the extent that their capacity asks for.
-pub record Alike (v w : List ℕ) : Type 0 where
-  pub long : extent (word v 1) ≤ length v
-  pub long-too : extent (word v 1) ≤ length w
-  pub same : take (extent (word v 1)) v ≡ take (extent (word v 1)) w
+-- Two slices that agree before a place, and are both that long.
+pub record Alike (place : ℕ) (v w : List ℕ) : Type 0 where
+  pub long : place ≤ length v
+  pub long-too : place ≤ length w
+  pub same : take place v ≡ take place w
 
 -- What the calls see of the two.
 pub data Seen (v w : List ℕ) : Type 0 where
   turned-down : (n : ℕ) → archive-rows v 0 ≡ suc n → archive-rows w 0 ≡ suc n → Seen v w
   held : (a : Archive) (b c : List ℕ) → Sound a → v ≡ layout a ++ b → w ≡ layout a ++ c → Seen v w
 
-alike-word : (v w : List ℕ) → Alike v w → (i : ℕ) → i < 8 → word v i ≡ word w i
+alike-word : (v w : List ℕ) → Alike (extent (word v 1)) v w → (i : ℕ) → i < 8 → word v i ≡ word w i
 unfolding extent
 alike-word v w h i l =
     sym (getD-take (extent (word v 1)) v i 0 (omega arith))
     ∙ ap (λ k. getD k i 0) (h .same)
     ∙ getD-take (extent (word v 1)) w i 0 (omega arith)
 
-alike-sym : (v w : List ℕ) → Alike v w → Alike w v
+alike-sym : (v w : List ℕ) → Alike (extent (word v 1)) v w → Alike (extent (word w 1)) w v
 alike-sym v w h =
     let same : word w 1 ≡ word v 1 = sym (alike-word v w h 1 (omega arith)) in
-    record { long = rw same (h .long-too); long-too = rw same (h .long); same = rw same (sym (h .same)) }
+    rw same (record { long = h .long-too; long-too = h .long; same = sym (h .same) })
 
-alike-header : (v w : List ℕ) → Alike v w → header-allowed v ≡ header-allowed w
+alike-header : (v w : List ℕ) → Alike (extent (word v 1)) v w → header-allowed v ≡ header-allowed w
 unfolding header-allowed read-shape
 alike-header v w h =
     rw (
@@ -53,7 +53,7 @@ alike-header v w h =
     )
 
 -- Where the one passes rows 1 to 3, the other holds the same archive.
-alike-held : (v w : List ℕ) → Alike v w → archive-rows v 0 ≡ 0 → w ≡ layout (read v) ++ drop (extent (word v 1)) w
+alike-held : (v w : List ℕ) → Alike (extent (word v 1)) v w → archive-rows v 0 ≡ 0 → w ≡ layout (read v) ++ drop (extent (word v 1)) w
 unfolding read read-shape
 alike-held v w h e =
     let p = passed v e in
@@ -69,14 +69,14 @@ row-2-given w l e = rw (le-ltb (length w) 8 l, e)
 row-3-given : (w : List ℕ) (x : Bool) → Headed w → records-allowed w ≡ x → archive-rows w 0 ≡ guard (not x) 3 0
 row-3-given w x h e = row-3-decides w 0 h ∙ ap (λ k. guard (not k) 3 0) e
 
-passing-held : (v w : List ℕ) → Alike v w → archive-rows v 0 ≡ 0 → Seen v w
+passing-held : (v w : List ℕ) → Alike (extent (word v 1)) v w → archive-rows v 0 ≡ 0 → Seen v w
 passing-held v w h e = let p = passed v e in held (read v) _ _ (p .sound) (p .laid) (alike-held v w h e)
 
 seen-sym : (v w : List ℕ) → Seen v w → Seen w v
 seen-sym v w (turned-down n e f) = turned-down n f e
 seen-sym v w (held a b c s e f) = held a c b s f e
 
-pub seen : (v w : List ℕ) → Alike v w → Seen v w
+pub seen : (v w : List ℕ) → Alike (extent (word v 1)) v w → Seen v w
 unfolding guard extent
 seen v w h = go (header-allowed v) refl
   where

@@ -1,11 +1,11 @@
 -- "Words from 8 + 5 × capacity on are neither read nor written" (document 01, "The archive's words"), of every call that
 -- is lent an archive slice.
-use Prim.Native.Nat.{ℕ, _≤_}
+use Prim.Native.Nat.{ℕ, _+_, _*_}
 use mathlib.Core.Path.{_≡_}
 use mathlib.Core.List.{List, _∷_, []}
-use lib.ListN.{length, take, drop}
+use lib.ListN.{take, drop}
 use Rattle.words.specs.Archive.{Trial, Shape}
-use Rattle.words.specs.Layout.{extent, word}
+use Rattle.words.specs.Layout.{word}
 use Rattle.calls.specs.declared.Answer.{Answer}
 use Rattle.calls.specs.Lent
 use Rattle.calls.specs.Lent.{Outcome}
@@ -22,7 +22,7 @@ pub data ArchiveCall : Type 0 where
   least : ArchiveCall
   reduce : (k : ℕ) (log : List ℕ) → ArchiveCall
   joint : (m n : ℕ) → ArchiveCall
-  gain : (point : Trial) → ArchiveCall
+  gain : (p : Trial) → ArchiveCall
   share : ArchiveCall
   audit : ArchiveCall
   load : (card : List ℕ) → ArchiveCall
@@ -35,11 +35,13 @@ pub record Result : Type 0 where
   pub words : List ℕ
   pub other : List ℕ
 
+-- A call that writes the archive.
 unfoldable pub written : Outcome → Result
 written o = record { answer = o .refusal ∷ o .value ∷ []; words = o .words; other = o .log }
 
-unfoldable pub answered : List ℕ → Answer → Result
-answered w a = record { answer = a .refusal ∷ a .value ∷ []; words = w; other = [] }
+-- A call that only reads.
+unfoldable pub only-read : List ℕ → Answer → Result
+only-read w a = record { answer = a .refusal ∷ a .value ∷ []; words = w; other = [] }
 
 -- By the definitions that the contracts of the exported functions cite.
 unfoldable pub result : ArchiveCall → List ℕ → Result
@@ -53,10 +55,10 @@ result least w =
       other = [];
     }
 result (reduce k log) w = written (Lent.reduce w k log)
-result (joint m n) w = answered w (Lent.joint w m n)
-result (gain p) w = answered w (Lent.gain-answer w p)
-result share w = answered w (Lent.share w)
-result audit w = answered w (Lent.audit w)
+result (joint m n) w = only-read w (Lent.joint w m n)
+result (gain p) w = only-read w (Lent.gain-answer w p)
+result share w = only-read w (Lent.share w)
+result audit w = only-read w (Lent.audit w)
 result (load card) w =
     record {
       answer = Card.load w card .answer .refusal ∷ Card.load w card .answer .line ∷ Card.load w card .answer .count ∷ [];
@@ -84,16 +86,9 @@ capacity-for audit w = word w 1
 capacity-for (load card) w = card-shape card .capacity
 capacity-for (report out) w = word w 1
 
--- 8 + 5 × that capacity.
+-- Where the words behind begin.
 unfoldable pub reach : ArchiveCall → List ℕ → ℕ
-reach c w = extent (capacity-for c w)
-
--- Two slices with the same words before 8 + 5 × capacity, and any words behind. (A slice that is shorter has no words
--- behind.)
-pub record AlikeBefore (c : ArchiveCall) (v w : List ℕ) : Type 0 where
-  pub first-long : reach c v ≤ length v
-  pub second-long : reach c v ≤ length w
-  pub same : take (reach c v) v ≡ take (reach c v) w
+reach c w = 8 + 5 * capacity-for c w
 
 -- The call does the same to both: its answer, its log or output, and the words before 8 + 5 × capacity.
 pub record DoneAlike (c : ArchiveCall) (v w : List ℕ) : Type 0 where
@@ -101,7 +96,9 @@ pub record DoneAlike (c : ArchiveCall) (v w : List ℕ) : Type 0 where
   pub words : take (reach c v) (result c v .words) ≡ take (reach c v) (result c w .words)
   pub other : result c v .other ≡ result c w .other
 
--- "Neither read nor written": whatever lies behind makes no difference, and stays.
+-- Neither read: of two slices with the same words before 8 + 5 × capacity, whatever lies behind makes no difference.
+-- (Their lengths need no condition: a slice that is shorter has no words behind, so the two are then equal.) Nor written:
+-- the words behind stay.
 pub record WordsBehind : Type 0 where
-  pub not-read : (c : ArchiveCall) (v w : List ℕ) → AlikeBefore c v w → DoneAlike c v w
+  pub not-read : (c : ArchiveCall) (v w : List ℕ) → take (reach c v) v ≡ take (reach c v) w → DoneAlike c v w
   pub not-written : (c : ArchiveCall) (w : List ℕ) → drop (reach c w) (result c w .words) ≡ drop (reach c w) w

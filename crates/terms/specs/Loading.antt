@@ -9,7 +9,7 @@ use mathlib.Core.Option.{Option, none, some}
 use lib.ListN.{length, getD, drop}
 use Rattle.text.specs.Lines.{Numbers}
 use Rattle.words.specs.Archive.{Trial, Shape}
-use Rattle.calls.specs.Lent.{start}
+use Rattle.calls.specs.Lent.{Outcome, start}
 use Rattle.card.specs.Card.{shape-on, trial-on, lines, load}
 use Rattle.history.specs.Book.{Book, entered}
 use Rattle.history.specs.History.{Call, Answered, run-words, run-answers, run-book, Agrees}
@@ -45,9 +45,12 @@ all-entered (t ∷ ts) b = all-entered ts (entered t b)
 unfoldable pub card-book : List ℕ → Book
 card-book card = all-entered (card-trials card) (opened-by (card-shape card))
 
--- The insertions of the further lines, each lent the whole slice, of this size.
-unfoldable pub insertions : ℕ → List Trial → List Call
-insertions size ts = map (Call.insert size) ts
+-- The calls that a card stands for: the start of line 1, and an insertion for each further line, lent the whole slice.
+abbrev pub card-start : (before card : List ℕ) → Outcome
+card-start before card = start before (card-shape card)
+
+unfoldable pub card-insertions : (before card : List ℕ) → List Call
+card-insertions before card = map (Call.insert (length before)) (card-trials card)
 
 -- What an insertion that is done answers.
 unfoldable pub done : Answered
@@ -59,11 +62,10 @@ done = record { refusal = 0; value = 0; log = [] }
 pub record AsCalls (before card : List ℕ) : Type 0 where
   pub line-1 : 1 ≤ length (lines card)
   pub form : lines card ≡ map some (card-numbers card)
-  pub start-done : start before (card-shape card) .refusal ≡ 0
+  pub start-done : card-start before card .refusal ≡ 0
   pub insertions-done :
-      run-answers (insertions (length before) (card-trials card)) (start before (card-shape card) .words) ≡ map (λ t. done) (card-trials card)
-  pub words :
-      load before card .words ≡ run-words (insertions (length before) (card-trials card)) (start before (card-shape card) .words)
+      run-answers (card-insertions before card) (card-start before card .words) ≡ map (λ t. done) (card-trials card)
+  pub words : load before card .words ≡ run-words (card-insertions before card) (card-start before card .words)
   pub count : load before card .answer .count ≡ length (card-trials card)
 
 -- The words and the book after a loading and a list of calls.
