@@ -1,17 +1,11 @@
 // Runs a script of calls on an archive, from standard input: the refusals at their limits, and what is just not refused.
 // Prints how many lines came out as they should.
 use calls::Answer;
-use hypervolume::Point;
 use testing::at;
 use testing::one;
 ghost use mathlib.Core.Path.{_≡_};
 ghost use Prim.Native.Nat.{_≤_};
 ghost use lib.ListN.{length};
-
-// The point of a line.
-fn point(row: [u64; 7]) -> Point {
-    Point::new(row[2] % 16777216, row[3] % 16777216, row[4] % 16777216)
-}
 
 fn reduce_into(w: &mut [u64], keep: u64, log: &mut [u64], n: usize) -> Answer
     requires { ⌜ n ≤ length (now log) ⌝ }
@@ -30,14 +24,14 @@ fn reduce(w: &mut [u64], row: [u64; 7]) -> Answer {
 }
 
 // Another call that writes; its refusal.
-fn written(w: &mut [u64], name: u8, number: u64, p: Point) -> u64 {
+fn written(w: &mut [u64], name: u8, row: [u64; 7]) -> u64 {
     if name == b'b' {
-        return insertion::start(w, p, number);
+        return insertion::start(w, row[2], row[3], row[4], row[1]);
     }
     if name == b'i' {
-        return insertion::insert(w, number, p);
+        return insertion::insert(w, row[1], row[2], row[3], row[4]);
     }
-    removal::remove(w, number)
+    removal::remove(w, row[1])
 }
 
 // A line that writes.
@@ -49,7 +43,7 @@ fn change(w: &mut [u64], name: u8, row: [u64; 7]) -> Answer {
         testing::put(w, row[1] as usize, row[2]);
         return Answer::done(0);
     }
-    Answer::refused(written(w, name, row[1], point(row)))
+    Answer::refused(written(w, name, row))
 }
 
 // The least contributor, as one number.
@@ -70,7 +64,7 @@ fn answer(w: &[u64], name: u8, row: [u64; 7]) -> Answer {
         return ask::joint(w, row[1], row[2]);
     }
     if name == b'g' {
-        return ask::gain(w, point(row));
+        return ask::gain(w, row[2], row[3], row[4]);
     }
     if name == b's' {
         return ask::share(w);

@@ -13,7 +13,6 @@ ghost use Rattle.words.specs.Archive.{reference, point};
 ghost use Rattle.words.specs.Layout.{word};
 ghost use Rattle.words.specs.Format.{archive-rows, shape-allowed};
 ghost use Rattle.words.specs.Places.{as-row, as-shape};
-ghost use Rattle.calls.specs.Lent.{trial-of};
 ghost use Rattle.ask.specs.RecordCounts.{PointsLoaded, CountedAll, CountedJoints};
 
 // The reference as a point.
@@ -30,19 +29,6 @@ pub fn point_of(row: Row) -> Point
     ensures { λ r. ⌜ r .at ≡ point (as-row row .trial) ⌝ }
 {
     Point::new(row.x, row.y, row.z)
-}
-
-// A record of this number and point, with no contribution yet.
-pub fn row_of(number: u64, p: Point) -> Row
-    ensures { λ r. ⌜ as-row r ≡ record { trial = trial-of number (p .at); kept = 0 } ⌝ }
-{
-    Row {
-        number,
-        x: p.at[0] as u64,
-        y: p.at[1] as u64,
-        z: p.at[2] as u64,
-        kept: 0,
-    }
 }
 
 // The coordinates of the records but the one at place `skip` (of all where skip is the count), a slice for each axis.

@@ -5,7 +5,6 @@ mod questions;
 
 pub use counts::count_joints;
 pub use counts::point_of;
-pub use counts::row_of;
 pub use questions::audit;
 pub use questions::audited;
 pub use questions::gain;

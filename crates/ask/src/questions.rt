@@ -3,14 +3,13 @@
 use crate::counts::count_all;
 use crate::counts::count_joints;
 use crate::counts::point_of;
-use crate::counts::row_of;
 use crate::division::millionths;
 use calls::Answer;
 use calls::LeastAnswer;
-use hypervolume::Point;
 use records::least_place;
 use records::load;
 use records::some_differs;
+use words::Row;
 use words::box_of;
 use words::coordinates_allowed;
 use words::find;
@@ -21,7 +20,7 @@ ghost use mathlib.Core.Path.{_≡_};
 ghost use Prim.Native.Nat.{_<_};
 ghost use Rattle.words.specs.Layout.{word, read};
 ghost use Rattle.words.specs.Format.{archive-rows};
-ghost use Rattle.words.specs.Places.{row-at};
+ghost use Rattle.words.specs.Places.{as-row, row-at};
 ghost use Rattle.calls.specs.Calls.{audited, joint-of};
 ghost use Rattle.calls.specs.Lent.{least, share, joint, gain-answer, audit, trial-of};
 
@@ -99,11 +98,10 @@ pub fn joint(w: &[u64], first: u64, second: u64) -> Answer
 }
 
 // Row 6 where the point is not allowed.
-fn gain_in(w: &[u64], p: Point) -> Answer
+fn gain_in(w: &[u64], row: Row) -> Answer
     requires { ⌜ archive-rows (now w) 0 ≡ 0 ⌝ }
-    ensures { λ r. ⌜ r ≡ gain-answer (now (w .entry)) (trial-of 0 (p .at)) ⌝ }
+    ensures { λ r. ⌜ r ≡ gain-answer (now (w .entry)) (as-row row .trial) ⌝ }
 {
-    let row = row_of(0, p);
     if !coordinates_allowed(shape_of(w), row) {
         return Answer::refused(6);
     }
@@ -113,14 +111,23 @@ fn gain_in(w: &[u64], p: Point) -> Answer
 }
 
 // Gain (point): cells that it dominates and no trial does.
-pub fn gain(w: &[u64], p: Point) -> Answer
-    ensures { λ r. ⌜ r ≡ gain-answer (now (w .entry)) (trial-of 0 (p .at)) ⌝ }
+pub fn gain(w: &[u64], x: u64, y: u64, z: u64) -> Answer
+    ensures { λ r. ⌜ r ≡ gain-answer (now (w .entry)) (trial-of 0 x y z) ⌝ }
 {
     let refused = refusal(w);
     if refused != 0 {
         return Answer::refused(refused);
     }
-    gain_in(w, p)
+    gain_in(
+        w,
+        Row {
+            number: 0,
+            x,
+            y,
+            z,
+            kept: 0,
+        },
+    )
 }
 
 fn share_in(w: &[u64]) -> Answer

@@ -5,7 +5,7 @@ use mathlib.Core.Path.{_≡_}
 use mathlib.Core.Bool.{not}
 use mathlib.Core.List.{List, _++_, []}
 use lib.Dec.{ltb}
-use lib.ListN.{length, drop, getD}
+use lib.ListN.{length, drop}
 use Rattle.hypervolume.specs.Cells.{holds}
 use Rattle.words.specs.Archive.{Trial, Row, Shape}
 use Rattle.words.specs.Layout.{layout, read, extent, behind}
@@ -14,13 +14,12 @@ use Rattle.calls.specs.declared.Answer.{Answer}
 use Rattle.calls.specs.declared.LeastAnswer.{LeastAnswer}
 use Rattle.calls.specs.Calls.{empty, inserted, insert-rows, removed, remove-rows, least-row, least-rows, joint-of, joint-rows, insert-gain, gain-rows, share-of, audited, after-drops, notes, reduce-rows}
 
--- A trial from a number and the coordinates of a point, in the order of the axes.
-abbrev pub trial-of : ℕ → List ℕ → Trial
-trial-of n p = record { number = n; x = getD p 0 0; y = getD p 1 0; z = getD p 2 0 }
+-- The trial and the shape of the numbers given, whatever they are.
+abbrev pub trial-of : (number x y z : ℕ) → Trial
+trial-of number x y z = record { number = number; x = x; y = y; z = z }
 
--- A shape from a capacity and the coordinates of a reference point.
-abbrev pub shape-of : ℕ → List ℕ → Shape
-shape-of c r = record { capacity = c; rx = getD r 0 0; ry = getD r 1 0; rz = getD r 2 0 }
+abbrev pub shape-of : (capacity rx ry rz : ℕ) → Shape
+shape-of capacity rx ry rz = record { capacity = capacity; rx = rx; ry = ry; rz = rz }
 
 -- What a call that writes leaves and answers: the refusal (0 when done), the value, the archive slice, the log.
 pub record Outcome : Type 0 where

@@ -1,6 +1,6 @@
 -- A card and its loading (document 01, "Card and report"). Loading runs the definitions of start and insert, line by
 -- line.
-use Prim.Native.Nat.{ℕ, zero, suc, _+_, _*_, _/_, _<_}
+use Prim.Native.Nat.{ℕ, zero, suc, _+_, _*_, _/_}
 use mathlib.Core.Path.{_≡_}
 use mathlib.Core.List.{List, _∷_, []}
 use mathlib.Core.Option.{Option, none, some}
@@ -8,8 +8,6 @@ use lib.Dec.{ltb}
 use lib.ListN.{length, drop}
 use Rattle.slices.specs.Choices.{pick}
 use Rattle.text.specs.Lines.{Numbers, line, line-from, numbers-of}
-use Rattle.text.specs.declared.Line.{Line}
-use Rattle.text.specs.declared.Line.the-variants.{Values, Malformed}
 use Rattle.words.specs.Archive.{Trial, Shape}
 use Rattle.calls.specs.Lent.{Outcome, start, insert}
 use Rattle.card.specs.declared.Loaded.{Loaded}
@@ -103,8 +101,3 @@ load w card = from-first w (lines card)
 pub record ReadInto (l : Loading) (r : Loaded) (after : List ℕ) : Type 0 where
   pub answer : r ≡ l .answer
   pub words : r .refusal ≡ 0 → after ≡ l .words
-
--- A line whose numbers have at most eight digits each, as every line that was read.
-abbrev pub Short : Line → Type 0
-Short (Values a b c d) = (a < 100000000) × (b < 100000000) × (c < 100000000) × (d < 100000000)
-Short Malformed = Unit {0}

@@ -2,20 +2,18 @@
 use crate::Loaded;
 use crate::lines::Due;
 use crate::lines::read_line;
-use hypervolume::Point;
 use insertion::insert;
 use insertion::start;
 use text::Line;
 ghost use mathlib.Core.Path.{_≡_};
-ghost use Prim.Native.Nat.{_<_, min};
+ghost use Prim.Native.Nat.{min};
 ghost use lib.ListN.{length};
 ghost use Rattle.text.specs.Lines.{numbers-of};
-ghost use Rattle.card.specs.Card.{first-line, further-line, load, ReadInto, Short};
+ghost use Rattle.card.specs.Card.{first-line, further-line, load, ReadInto};
 ghost use Rattle.card.specs.Check.{check};
 
 // Line 1: the start of the archive. Answers 15, 4, 1 or 0.
 fn first_line(w: &mut [u64], l: Line) -> u64
-    requires { ⌜ Short l ⌝ }
     ensures { λ r. ⌜ (r ≡ first-line (now (w .entry)) (numbers-of l) .refusal) × (now (w .exit) ≡ first-line (now (w .entry)) (numbers-of l) .words) ⌝ }
 {
     let Line::Values {
@@ -27,12 +25,11 @@ fn first_line(w: &mut [u64], l: Line) -> u64
     else {
         return 15;
     };
-    start(w, Point::new(second, third, fourth), first)
+    start(w, second, third, fourth, first)
 }
 
 // A further line: an insertion. Answers 15, 5 to 8 or 0.
 fn further_line(w: &mut [u64], l: Line) -> u64
-    requires { ⌜ Short l ⌝ }
     ensures { λ r. ⌜ (r ≡ further-line (now (w .entry)) (numbers-of l) .refusal) × (now (w .exit) ≡ further-line (now (w .entry)) (numbers-of l) .words) ⌝ }
 {
     let Line::Values {
@@ -44,7 +41,7 @@ fn further_line(w: &mut [u64], l: Line) -> u64
     else {
         return 15;
     };
-    insert(w, first, Point::new(second, third, fourth))
+    insert(w, first, second, third, fourth)
 }
 
 fn refused(refusal: u64, line: u64) -> Loaded

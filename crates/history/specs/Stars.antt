@@ -24,7 +24,7 @@ pub data Step : Type 0 where
 
 -- The words after it.
 unfoldable pub step-words : Step → List ℕ → List ℕ
-step-words (insert n x y z) w = Lent.insert w (trial-of n (x ∷ y ∷ z ∷ [])) .words
+step-words (insert n x y z) w = Lent.insert w (trial-of n x y z) .words
 step-words (remove n) w = Lent.remove w n .words
 step-words (reduce k log) w = Lent.reduce w k log .words
 step-words least w = w
@@ -37,15 +37,15 @@ step-words (contribution n) w = w
 -- What comes out: of a call the refusal and then its answer, of a reduction the log too; the kept total; a kept
 -- contribution.
 unfoldable pub step-answer : Step → List ℕ → List ℕ
-step-answer (insert n x y z) w = Lent.insert w (trial-of n (x ∷ y ∷ z ∷ [])) .refusal ∷ []
+step-answer (insert n x y z) w = Lent.insert w (trial-of n x y z) .refusal ∷ []
 step-answer (remove n) w = Lent.remove w n .refusal ∷ []
 step-answer (reduce k log) w =
     Lent.reduce w k log .refusal ∷ Lent.reduce w k log .value ∷ Lent.reduce w k log .log
 step-answer least w = Lent.least w .refusal ∷ Lent.least w .number ∷ Lent.least w .contribution ∷ []
 step-answer (joint m n) w = Lent.joint w m n .refusal ∷ Lent.joint w m n .value ∷ []
 step-answer (gain x y z) w =
-    Lent.gain-answer w (trial-of 0 (x ∷ y ∷ z ∷ [])) .refusal
-    ∷ Lent.gain-answer w (trial-of 0 (x ∷ y ∷ z ∷ [])) .value ∷ []
+    Lent.gain-answer w (trial-of 0 x y z) .refusal
+    ∷ Lent.gain-answer w (trial-of 0 x y z) .value ∷ []
 step-answer share w = Lent.share w .refusal ∷ Lent.share w .value ∷ []
 step-answer total w = word w 5 ∷ []
 step-answer (contribution n) w = row-of n (read w .rows) .kept ∷ []
@@ -90,7 +90,13 @@ small =
     -- 2. "(0,0,0): total and contribution 64."
     ∷ star usual (done (insert 1 0 0 0) ∷ gives total (64 ∷ []) ∷ gives (contribution 1) (64 ∷ []) ∷ [])
     -- 3. "(4,0,0): accepted, contributes 0. (5,0,0): 6."
-    ∷ star usual (done (insert 1 4 0 0) ∷ gives (contribution 1) (0 ∷ []) ∷ gives (insert 2 5 0 0) (6 ∷ []) ∷ [])
+    -- Least tells a trial that contributes 0 from none held.
+    ∷ star usual
+    (done (insert 1 4 0 0)
+    ∷ gives (contribution 1) (0 ∷ [])
+    ∷ gives least (0 ∷ 1 ∷ 0 ∷ [])
+    ∷ gives (insert 2 5 0 0) (6 ∷ [])
+    ∷ [])
     -- 4. "(1,1,1) twice, as 1 and 2: total 27, both 0. After 2 is removed, 1 has 27."
     ∷ star usual
     (done (insert 1 1 1 1)

@@ -1,8 +1,6 @@
 // Insert: rows 5 to 8 and 13, then the record in its place and every contribution moved by the counted amount.
 use ask::count_joints;
 use ask::point_of;
-use ask::row_of;
-use hypervolume::Point;
 use records::Moved;
 use records::enter;
 use records::keep;
@@ -101,14 +99,20 @@ fn put_in(w: &mut [u64], row: Row) -> u64
 }
 
 // Insert (number, point). Answers 0 when done.
-pub fn insert(w: &mut [u64], number: u64, p: Point) -> u64
-    ensures { λ r. ⌜ (r ≡ insert (now (w .entry)) (trial-of number (p .at)) .refusal) × (now (w .exit) ≡ insert (now (w .entry)) (trial-of number (p .at)) .words) ⌝ }
+pub fn insert(w: &mut [u64], number: u64, x: u64, y: u64, z: u64) -> u64
+    ensures { λ r. ⌜ (r ≡ insert (now (w .entry)) (trial-of number x y z) .refusal) × (now (w .exit) ≡ insert (now (w .entry)) (trial-of number x y z) .words) ⌝ }
 {
     let refused = refusal(w);
     if refused != 0 {
         return refused;
     }
-    let row = row_of(number, p);
+    let row = Row {
+        number,
+        x,
+        y,
+        z,
+        kept: 0,
+    };
     let turned = admission(w, row);
     if turned != 0 {
         return turned;

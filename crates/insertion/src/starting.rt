@@ -1,5 +1,4 @@
 // Start: an empty archive in lent words.
-use hypervolume::Point;
 use slices::clear;
 use words::Shape;
 use words::put_header;
@@ -8,14 +7,14 @@ ghost use mathlib.Core.Path.{_≡_};
 ghost use Rattle.calls.specs.Lent.{start, shape-of};
 
 // Start (reference, capacity). Answers 0, or row 4 or 1.
-pub fn start(w: &mut [u64], reference: Point, capacity: u64) -> u64
-    ensures { λ r. ⌜ (r ≡ start (now (w .entry)) (shape-of capacity (reference .at)) .refusal) × (now (w .exit) ≡ start (now (w .entry)) (shape-of capacity (reference .at)) .words) ⌝ }
+pub fn start(w: &mut [u64], rx: u64, ry: u64, rz: u64, capacity: u64) -> u64
+    ensures { λ r. ⌜ (r ≡ start (now (w .entry)) (shape-of capacity rx ry rz) .refusal) × (now (w .exit) ≡ start (now (w .entry)) (shape-of capacity rx ry rz) .words) ⌝ }
 {
     let s = Shape {
         capacity,
-        rx: reference.at[0] as u64,
-        ry: reference.at[1] as u64,
-        rz: reference.at[2] as u64,
+        rx,
+        ry,
+        rz,
     };
     if !shape_allowed(s) {
         return 4;

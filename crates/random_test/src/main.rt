@@ -119,7 +119,9 @@ fn somewhere(reference: Point, set: u64, i: u64) -> Point {
 
 // Whether the gain of a point is the count of the cells that it alone dominates.
 fn gain_agrees(book: &[u32], reference: Point, w: &[u64], p: Point) -> bool {
-    says(ask::gain(w, p), 0, testing::cells(book, reference, p, 0, 0))
+    let at = p.at;
+    let gain = ask::gain(w, at[0] as u64, at[1] as u64, at[2] as u64);
+    says(gain, 0, testing::cells(book, reference, p, 0, 0))
 }
 
 // Whether the least contributor that is dropped has this number and contribution; number 0 where there is none.
@@ -141,6 +143,11 @@ fn drop_least(book: &mut [u32], reference: Point, w: &mut [u64]) -> bool {
     drops(w, n as u64, due)
 }
 
+fn inserts(w: &mut [u64], number: u64, p: Point) -> bool {
+    let at = p.at;
+    insertion::insert(w, number, at[0] as u64, at[1] as u64, at[2] as u64) == 0
+}
+
 // One call on both: an insertion, a removal of the held, or a reduction by one.
 fn step(book: &mut [u32], reference: Point, w: &mut [u64], set: u64, i: u64) -> bool {
     let chosen = noise(set, 3, i);
@@ -154,7 +161,7 @@ fn step(book: &mut [u32], reference: Point, w: &mut [u64], set: u64, i: u64) -> 
     }
     let p = somewhere(reference, set, i);
     enter(book, n, p);
-    insertion::insert(w, n as u64, p) == 0
+    inserts(w, n as u64, p)
 }
 
 // Whether the archive agrees with the book after a call, and on a point to gain.
@@ -193,7 +200,9 @@ fn archive_agrees(set: u64) -> bool {
             (1 + noise(set, 2, 15) % 6) as u32,
         ],
     };
-    insertion::start(&mut w, reference, 8) == 0 && lives(&mut book, reference, &mut w, set)
+    let r = reference.at;
+    insertion::start(&mut w, r[0] as u64, r[1] as u64, r[2] as u64, 8) == 0
+        && lives(&mut book, reference, &mut w, set)
 }
 
 // How many of a hundred archives differ.

@@ -3,26 +3,24 @@
 use calls::Answer;
 use calls::LeastAnswer;
 use card::Loaded;
-use hypervolume::Point;
 ghost use mathlib.Core.Path.{_≡_};
-ghost use mathlib.Core.List.{_∷_, []};
 ghost use Rattle.calls.specs.Lent.{start, insert, remove, least, reduce, joint, gain-answer, share, audit, trial-of, shape-of, MeetsOutcome};
 ghost use Rattle.card.specs.Card.{load};
 ghost use Rattle.card.specs.Check.{check};
 ghost use Rattle.reports.specs.Report.{report, reported};
 
 #[no_mangle]
-pub extern "C" fn ta_start(words: &mut [u64], rx: u32, ry: u32, rz: u32, capacity: u64) -> u64
-    ensures { λ r. ⌜ (r ≡ start (now (words .entry)) (shape-of capacity (rx ∷ ry ∷ rz ∷ [])) .refusal) × (now (words .exit) ≡ start (now (words .entry)) (shape-of capacity (rx ∷ ry ∷ rz ∷ [])) .words) ⌝ }
+pub extern "C" fn ta_start(words: &mut [u64], rx: u64, ry: u64, rz: u64, capacity: u64) -> u64
+    ensures { λ r. ⌜ (r ≡ start (now (words .entry)) (shape-of capacity rx ry rz) .refusal) × (now (words .exit) ≡ start (now (words .entry)) (shape-of capacity rx ry rz) .words) ⌝ }
 {
-    insertion::start(words, Point::new(rx as u64, ry as u64, rz as u64), capacity)
+    insertion::start(words, rx, ry, rz, capacity)
 }
 
 #[no_mangle]
-pub extern "C" fn ta_insert(words: &mut [u64], number: u64, x: u32, y: u32, z: u32) -> u64
-    ensures { λ r. ⌜ (r ≡ insert (now (words .entry)) (trial-of number (x ∷ y ∷ z ∷ [])) .refusal) × (now (words .exit) ≡ insert (now (words .entry)) (trial-of number (x ∷ y ∷ z ∷ [])) .words) ⌝ }
+pub extern "C" fn ta_insert(words: &mut [u64], number: u64, x: u64, y: u64, z: u64) -> u64
+    ensures { λ r. ⌜ (r ≡ insert (now (words .entry)) (trial-of number x y z) .refusal) × (now (words .exit) ≡ insert (now (words .entry)) (trial-of number x y z) .words) ⌝ }
 {
-    insertion::insert(words, number, Point::new(x as u64, y as u64, z as u64))
+    insertion::insert(words, number, x, y, z)
 }
 
 #[no_mangle]
@@ -54,10 +52,10 @@ pub extern "C" fn ta_joint(words: &[u64], first: u64, second: u64) -> Answer
 }
 
 #[no_mangle]
-pub extern "C" fn ta_gain(words: &[u64], x: u32, y: u32, z: u32) -> Answer
-    ensures { λ r. ⌜ r ≡ gain-answer (now (words .entry)) (trial-of 0 (x ∷ y ∷ z ∷ [])) ⌝ }
+pub extern "C" fn ta_gain(words: &[u64], x: u64, y: u64, z: u64) -> Answer
+    ensures { λ r. ⌜ r ≡ gain-answer (now (words .entry)) (trial-of 0 x y z) ⌝ }
 {
-    ask::gain(words, Point::new(x as u64, y as u64, z as u64))
+    ask::gain(words, x, y, z)
 }
 
 #[no_mangle]

@@ -13,9 +13,8 @@ use Rattle.text.specs.Lines.{Numbers, line-from, numbers-of}
 use Rattle.text.specs.declared.Line.{Line}
 use Rattle.text.specs.declared.Line.the-variants.{Values, Malformed}
 use Rattle.calls.specs.Lent.{Outcome, shape-of, trial-of, start, insert}
-use Rattle.text.proofs.Lines.{line-of-line}
 use Rattle.card.specs.declared.Loaded.{Loaded}
-use Rattle.card.specs.Card.{shape-on, trial-on, line-count, lines, due, malformed, by-form, first-line, further-line, Loading, refused, accepted, judged, further, from-first, load, ReadInto, Short}
+use Rattle.card.specs.Card.{shape-on, trial-on, line-count, lines, due, malformed, by-form, first-line, further-line, Loading, refused, accepted, judged, further, from-first, load, ReadInto}
 use Rattle.card.proofs.CardLines.{lines-left, no-line-left}
 
 -- A line that is not of the form, and the call that any other line makes.
@@ -37,14 +36,14 @@ module _ (w : List ℕ) {l : Line} where
   unfolding further-line
   further-missing = missing w _
 
-  module _ {a b c d : ℕ} {p : List ℕ} (e : l ≡ Values a b c d) (at : p ≡ b ∷ c ∷ d ∷ []) where
-    pub first-called : start w (shape-of a p) ≡ first-line w (numbers-of l)
+  module _ {a b c d : ℕ} (e : l ≡ Values a b c d) where
+    pub first-called : start w (shape-of a b c d) ≡ first-line w (numbers-of l)
     unfolding first-line shape-on
-    first-called = rw at (called w _ e)
+    first-called = called w _ e
 
-    pub further-called : insert w (trial-of a p) ≡ further-line w (numbers-of l)
+    pub further-called : insert w (trial-of a b c d) ≡ further-line w (numbers-of l)
     unfolding further-line trial-on
-    further-called = rw at (called w _ e)
+    further-called = called w _ e
 
 -- What is said of a call's outcome is said of an equal one.
 pub same-outcome : {o q : Outcome} {r : ℕ} {after : List ℕ} → o ≡ q → (r ≡ o .refusal) × (after ≡ o .words)
@@ -89,13 +88,6 @@ no-line-due card {line} one e = go line one e
     go : (line : ℕ) → 1 ≤ line → none ≡ due card line → line-count card ≤ line - 1
     go zero one e = absurd (let no′ : ⊥ = omega arith in no′)
     go (suc i) one e = chosen i (ltb i (line-count card)) (compared (suc i) (line-count card)) e
-
--- The numbers of a line that was read fit a word of 32 bits.
-pub read-short : {card : List ℕ} {line : ℕ} (l : Line) → Inside card line (numbers-of l) → Short l
-read-short {card} {line} (Values a b c d) i =
-    let f = line-of-line card (33 * (line - 1)) _ (i .is) .fitting in
-    (f .first, f .second, f .third, f .fourth)
-read-short Malformed i = tt
 
 -- The card from line 1 on.
 first-lines : (card : List ℕ) {l : Option Numbers} → Inside card 1 l → lines card ≡ l ∷ lines (drop 33 card)

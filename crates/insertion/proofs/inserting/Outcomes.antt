@@ -4,7 +4,7 @@ use mathlib.Core.Path.{_≡_, refl, sym, ap, _∙_}
 use mathlib.Core.Bool.{Bool, true, false}
 use mathlib.Core.List.{List, _++_, []}
 use native.Mathlib.Omega.{arith}
-use Rattle.words.specs.Archive.{Trial, Row}
+use Rattle.words.specs.Archive.{Trial}
 use Rattle.slices.specs.Choices.{pick}
 use Rattle.words.specs.Layout.{layout, read, behind}
 use Rattle.words.specs.Format.{guard, archive-rows}
@@ -42,13 +42,3 @@ insert-put w left t r p a e l = go (insert-overruns (read w) t) refl e l
     go false q e l =
         let o = leaves-done w [] (archive-rows w (insert-rows (read w) t)) 0 (layout (inserted (read w) t) ++ behind w) [] (rows false q) in
         (e ∙ sym (ap (λ (x : Outcome). x .refusal) o), l ∙ sym (ap (λ (x : Outcome). x .words) o))
-
--- The same for a trial that comes as a record.
-pub insert-put-row : (w left : List ℕ) (row : Row) (t : Trial) (r : ℕ) → archive-rows w 0 ≡ 0 → row ≡ record { trial = t; kept = 0 } → admission-rows (read w) (row .trial) 0 ≡ 0
-    → r ≡ guard (insert-overruns (read w) (row .trial)) 13 0 → left ≡ pick (insert-overruns (read w) (row .trial)) w (layout (inserted (read w) (row .trial)) ++ behind w)
-    → (r ≡ insert w t .refusal) × (left ≡ insert w t .words)
-insert-put-row w left row t r p is a e l =
-    let same : row .trial ≡ t = ap (λ (x : Row). x .trial) is in
-    insert-put w left t r p (ap (λ x. admission-rows (read w) x 0) (sym same) ∙ a)
-    (e ∙ ap (λ x. guard (insert-overruns (read w) x) 13 0) same)
-    (l ∙ ap (λ x. pick (insert-overruns (read w) x) w (layout (inserted (read w) x) ++ behind w)) same)

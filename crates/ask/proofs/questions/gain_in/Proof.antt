@@ -1,13 +1,13 @@
 -- `gain_in` meets its contract: row 6, or the gain over all records.
-use mathlib.Core.Path.{_≡_, sym, ap, ap₂, subst, _∙_}
+use mathlib.Core.Path.{_≡_, sym, ap, subst, _∙_}
 use native.Mathlib.Nat.{le-refl}
 use native.Mathlib.Omega.{arith}
 use borrow.Author.Tests.{not-true, not-false}
 use Rattle.sweep.specs.Points.{Small}
-use Rattle.words.specs.Archive.{point}
 use Rattle.words.specs.Layout.{read}
 use Rattle.words.specs.Format.{coordinates-allowed}
-use Rattle.calls.specs.Lent.{gain-answer, trial-of}
+use Rattle.words.specs.Places.{as-row}
+use Rattle.calls.specs.Lent.{gain-answer}
 use Rattle.calls.proofs.Known.{known}
 use Rattle.ask.proofs.questions.Asking.{answer-row, answer-value, gain-refused, gain-passes}
 use Rattle.ask.proofs.LoadedPoints.{allowed-small}
@@ -16,15 +16,12 @@ use borrow.Author.Needs.{needs}
 use Rattle.ask.proofs.questions.gain_in.Statement.{statement}
 use Rattle.ask.proofs.questions.gain_in.Tie as tie
 
-six : (c : tie.After-coordinates-allowed) → coordinates-allowed (read (c .before .before .before .before .args .w .now) .shape) (trial-of 0 (c .before .before .before .before .args .p .at)) ≡ c .coordinates-allowed .result
+six : (c : tie.After-coordinates-allowed) → coordinates-allowed (read (c .before .before .before .args .w .now) .shape) (as-row (c .before .before .before .args .row) .trial) ≡ c .coordinates-allowed .result
 unfolding read
-six c = sym (c .coordinates-allowed .ensures ∙ ap₂ coordinates-allowed (c .before .shape-of .ensures) (ap (λ r. r .trial) (c .before .before .row-of .ensures)))
-
-row-of-requires : tie.Need-row-of-requires
-row-of-requires c κs = search needs
+six c = sym (c .coordinates-allowed .ensures ∙ ap (λ s. coordinates-allowed s (as-row (c .before .before .before .args .row) .trial)) (c .before .shape-of .ensures))
 
 shape-of-requires : tie.Need-shape-of-requires
-shape-of-requires c κs = omega (arith, known (c .before .before .args .w .now) (c .before .before .pre))
+shape-of-requires c κs = omega (arith, known (c .before .args .w .now) (c .before .pre))
 
 coordinates-allowed-requires : tie.Need-coordinates-allowed-requires
 coordinates-allowed-requires c κs = search needs
@@ -34,32 +31,31 @@ refused-requires c κs = search needs
 
 returns : tie.Need-returns
 unfolding gain-answer
-returns c = c .refused .ensures ∙ answer-row (c .before .before .before .before .before .before .args .w .now) 5 _ _ (c .before .before .before .before .before .before .pre) (gain-refused _ _ (six (c .before .before) ∙ not-true _ (c .before .if1 .taken)))
+returns c = c .refused .ensures ∙ answer-row (c .before .before .before .before .before .args .w .now) 5 _ _ (c .before .before .before .before .before .pre) (gain-refused _ _ (six (c .before .before) ∙ not-true _ (c .before .if1 .taken)))
 
 shared-slice-read-n : tie.Need-shared-slice-read-n
-shared-slice-read-n c = omega (arith, known (c .before .before .before .before .before .before .args .w .now) (c .before .before .before .before .before .before .pre))
+shared-slice-read-n c = omega (arith, known (c .before .before .before .before .before .args .w .now) (c .before .before .before .before .before .pre))
 
 point-of-requires : tie.Need-point-of-requires
-point-of-requires c κs = subst (λ q. Small q) (sym (ap point (ap (λ r. r .trial) (c .before .before .before .before .row-of .ensures)))) (allowed-small (c .before .before .before .before .before .before .args .w .now) (trial-of 0 (c .before .before .before .before .before .before .args .p .at)) (c .before .before .before .before .before .before .pre) (six (c .before .before) ∙ not-false _ (c .before .if1 .left)))
+point-of-requires c κs = allowed-small (c .before .before .before .before .before .args .w .now) (as-row (c .before .before .before .before .before .args .row) .trial) (c .before .before .before .before .before .pre) (six (c .before .before) ∙ not-false _ (c .before .if1 .left))
 
 slice-aggregate-count-joints : tie.Need-slice-aggregate-count-joints
 slice-aggregate-count-joints c = search needs
 
 count-joints-requires : tie.Need-count-joints-requires
-count-joints-requires c κs = ((c .before .before .before .before .before .before .before .before .pre), le-refl _, omega arith, subst (λ q. Small q) (sym (c .before .point-of .ensures ∙ ap point (ap (λ r. r .trial) (c .before .before .before .before .before .before .row-of .ensures)))) (allowed-small (c .before .before .before .before .before .before .before .before .args .w .now) (trial-of 0 (c .before .before .before .before .before .before .before .before .args .p .at)) (c .before .before .before .before .before .before .before .before .pre) (six (c .before .before .before .before) ∙ not-false _ (c .before .before .before .if1 .left))))
+count-joints-requires c κs = ((c .before .before .before .before .before .before .before .pre), le-refl _, omega arith, subst (λ q. Small q) (sym (c .before .point-of .ensures)) (allowed-small (c .before .before .before .before .before .before .before .args .w .now) (as-row (c .before .before .before .before .before .before .before .args .row) .trial) (c .before .before .before .before .before .before .before .pre) (six (c .before .before .before .before) ∙ not-false _ (c .before .before .before .if1 .left))))
 
 done-requires : tie.Need-done-requires
 done-requires c κs = search needs
 
 returns-2 : tie.Need-returns-2
 unfolding gain-answer
-returns-2 c = c .done .ensures ∙ answer-value (c .before .before .before .before .before .before .before .before .before .before .before .args .w .now) _ _ _ (c .before .before .before .before .before .before .before .before .before .before .before .pre) (gain-passes _ _ (six (c .before .before .before .before .before .before .before) ∙ not-false _ (c .before .before .before .before .before .before .if1 .left))) (gain-front (c .before .before .before .before .before .before .before .before .before .before .before .args .w .now) _ _ _ _ _ (c .before .before .before .before .point-of .ensures ∙ ap point (ap (λ r. r .trial) (c .before .before .before .before .before .before .before .before .before .row-of .ensures))) (c .before .before .count-joints .ensures))
+returns-2 c = c .done .ensures ∙ answer-value (c .before .before .before .before .before .before .before .before .before .before .args .w .now) _ _ _ (c .before .before .before .before .before .before .before .before .before .before .pre) (gain-passes _ _ (six (c .before .before .before .before .before .before .before) ∙ not-false _ (c .before .before .before .before .before .before .if1 .left))) (gain-front (c .before .before .before .before .before .before .before .before .before .before .args .w .now) _ _ _ _ _ (c .before .before .before .before .point-of .ensures) (c .before .before .count-joints .ensures))
 
 pub gain-in-spec : {M : Type 1} → statement M
 gain-in-spec =
     tie.close
     (tie.spec
-    row-of-requires
     shape-of-requires
     coordinates-allowed-requires
     refused-requires

@@ -1,5 +1,4 @@
 -- `card::loading::first_line` meets its contract: row 15, or what start answers and leaves.
-use native.Mathlib.Omega.{arith}
 use mathlib.Core.Path.{refl}
 use borrow.Author.Needs.{needs}
 use Rattle.card.specs.Card.{malformed}
@@ -17,11 +16,6 @@ returns : tie.Need-returns
 unfolding malformed
 returns c = same-outcome (first-missing _ (c .enum-told .given .1)) (refl, refl)
 
-new-requires : tie.Need-new-requires
-new-requires c κs =
-    let short = rw (c .before .before .l .given .1) at (c .before .before .before .before .before .pre) in
-    (omega (arith, short .1), omega (arith, short .2), omega (arith, short .3))
-
 start-requires : tie.Need-start-requires
 start-requires c κs = search needs
 
@@ -29,7 +23,7 @@ same-length : tie.Need-same-length
 same-length c = search needs
 
 returns-2 : tie.Need-returns-2
-returns-2 c = same-outcome (first-called _ (c .before .before .before .before .before .before .l .given .1) (c .before .before .before .new .ensures)) (c .before .before .start .ensures)
+returns-2 c = same-outcome (first-called _ (c .before .before .before .before .before .l .given .1)) (c .before .before .start .ensures)
 
 pub first-line-spec : {M : Type 1} → statement M
 first-line-spec =
@@ -38,7 +32,6 @@ first-line-spec =
     enum-known-l
     enum-told
     returns
-    new-requires
     start-requires
     same-length
     returns-2)

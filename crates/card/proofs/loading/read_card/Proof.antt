@@ -8,7 +8,7 @@ use borrow.Author.Needs.{needs}
 use denote.Ref.{now}
 use Rattle.text.specs.Lines.{numbers-of}
 use Rattle.card.specs.Card.{line-count, lines, due-of, further, load}
-use Rattle.card.proofs.loading.ReadCard.{Inside, inside, read-short, card-missing, first-refused, first-done, Reading, reading-none, reading-more, reading-stop, reading-end, few-lines}
+use Rattle.card.proofs.loading.ReadCard.{Inside, inside, card-missing, first-refused, first-done, Reading, reading-none, reading-more, reading-stop, reading-end, few-lines}
 use Rattle.card.proofs.loading.read_card.Statement.{statement}
 use Rattle.card.proofs.loading.read_card.Tie as tie
 
@@ -45,7 +45,7 @@ returns : tie.Need-returns Inv-loop μ-loop
 returns c = card-missing _ _ (sym (ap due-of (c .before .enum-told .given .1)) ∙ c .before .before .before .read-line .ensures) (c .refused .ensures)
 
 first-line-requires : tie.Need-first-line-requires Inv-loop μ-loop
-first-line-requires c κs = read-short (c .before .before .first .given .0 .0) (first-inside (c .before .before))
+first-line-requires c κs = search needs
 
 refused-requires-2 : tie.Need-refused-requires-2 Inv-loop μ-loop
 refused-requires-2 c κs = search needs
@@ -66,7 +66,7 @@ enum-known-l : tie.Need-enum-known-l Inv-loop μ-loop
 enum-known-l c = search needs
 
 further-line-requires : tie.Need-further-line-requires Inv-loop μ-loop
-further-line-requires c κs = read-short (c .before .before .l .given .0 .0) (line-inside (c .before .before))
+further-line-requires c κs = search needs
 
 refused-requires-3 : tie.Need-refused-requires-3 Inv-loop μ-loop
 refused-requires-3 c κs = search needs

@@ -8,24 +8,6 @@ use borrow.Author.Needs.{needs}
 use Rattle.insertion.proofs.starting.start.Statement.{statement}
 use Rattle.insertion.proofs.starting.start.Tie as tie
 
-element-copy-out-t9 : tie.Need-element-copy-out-t9
-element-copy-out-t9 c = search needs
-
-cast-t10 : tie.Need-cast-t10
-cast-t10 c = search needs
-
-element-copy-out-t13 : tie.Need-element-copy-out-t13
-element-copy-out-t13 c = search needs
-
-cast-t14 : tie.Need-cast-t14
-cast-t14 c = search needs
-
-element-copy-out-t17 : tie.Need-element-copy-out-t17
-element-copy-out-t17 c = search needs
-
-cast-t18 : tie.Need-cast-t18
-cast-t18 c = search needs
-
 shape-allowed-requires : tie.Need-shape-allowed-requires
 shape-allowed-requires c κs = search needs
 
@@ -60,12 +42,6 @@ pub start-spec : {M : Type 1} → statement M
 start-spec =
     tie.close
     (tie.spec
-    element-copy-out-t9
-    cast-t10
-    element-copy-out-t13
-    cast-t14
-    element-copy-out-t17
-    cast-t18
     shape-allowed-requires
     returns
     mul-end
