@@ -33,9 +33,9 @@ fn print_card(card: &[u8], out: &mut [u8]) -> usize
     report(&words, out).value as usize
 }
 
-// The same for a card of any length, of which the first `read` bytes of the input are known: all of it, or as much as fills
-// the input. Lines behind the 514th decide nothing, so an input with room for 514 lines of 33 bytes is long enough; with a
-// shorter one a long card could pass for a short one.
+// The same for a card of any length, of which `read` bytes were read to the front of the input: all of it, or as much as
+// fills the input. Lines behind the 514th decide nothing, so room for 514 lines of 33 bytes is enough. In a shorter input a
+// line would be cut that decides.
 pub fn print(input: &[u8], read: usize, out: &mut [u8]) -> usize
     requires { ⌜ PrintRoom (now input) read (now out) ⌝ }
     ensures { λ r. ⌜ PrintsRead (now (input .entry)) read (now (out .entry)) r (now (out .exit)) ⌝ }

@@ -16,7 +16,7 @@ same-length : tie.Need-same-length
 same-length c = search needs
 
 returns : tie.Need-returns
-returns c = prints-read _ _ (c .before .before .before .before .before .before .before .pre .lines) (c .before .before .print-card .ensures)
+returns c = prints-read _ _ (omega arith) (c .before .before .print-card .ensures)
 
 pub print-spec : {M : Type 1} → statement M
 print-spec = tie.close (tie.spec slice-aggregate-print-card print-card-requires same-length returns)
