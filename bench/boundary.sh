@@ -116,7 +116,7 @@ function closed(s, i, depth) {
 
 # What an `ensures` does not speak of.
 function left_out(ensures, params, param, n, i, part, out, bound) {
-    if (ensures == "") return ", all: there is none"
+    if (ensures == "") return ", everything: there is no ensures"
     if (!match(ensures, /λ [a-z]+\./)) return ", the answer"
     bound = substr(ensures, RSTART, RLENGTH - 1)
     sub(/^.* /, "", bound)
@@ -261,7 +261,7 @@ END {
     nm -g --defined-only "$lib" >"$work/symbols" || printf 'fault\t\tnm cannot read the library\n'
     awk 'NF == 3 && $2 == "T" && $3 ~ /^ta_/ { print "library\t" $3 "\t"; next }
         NF == 3 { print "fault\t\tthe library has a symbol " $3 " of kind " $2 }' "$work/symbols"
-    find crates -path '*/src/*' -name '*.rt' | sort | while IFS= read -r file; do
+    find crates/ -path '*/src/*' -name '*.rt' | sort | while IFS= read -r file; do
         awk "$common$source" "$file"
     done
     awk "$common$header" include/trial_archive.h

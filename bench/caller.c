@@ -551,6 +551,8 @@ static void numbers_too_wide(void)
 
             at[axis] = wide[i];
             CHECK(ta_start(words, LENT, at[0], at[1], at[2], 8) == TA_BAD_START);
+            CHECK(insert(0, at[0], at[1], at[2]) == TA_BAD_NUMBER);
+            CHECK(insert(1, at[0], at[1], at[2]) == TA_ABOVE_REFERENCE);
             CHECK(insert(7, at[0], at[1], at[2]) == TA_ABOVE_REFERENCE);
             CHECK(is_answer(gain(at[0], at[1], at[2]), TA_ABOVE_REFERENCE, 0));
             check_untouched();
