@@ -18,6 +18,7 @@ use Rattle.calls.proofs.Counted.{empty-counted}
 use Rattle.calls.proofs.Lent.{leaves-refusal, leaves-unrefused}
 use Rattle.history.specs.Book.{Book, book-turn, opened}
 use Rattle.history.specs.History.{Call, on-words, words-after, run-words, run-answers, request, run-book, book-answers, sorted, shape-of-book, fresh-archive, fresh, Agrees}
+use Rattle.history.specs.Terms.{opened-by}
 use Rattle.history.proofs.Steps.{Holds, Agree, fresh-length, holds-length, step}
 
 -- The length of the words does not change.
@@ -25,7 +26,7 @@ fresh-size : (s : Shape) (rest w : List ℕ) (b : Book) → Holds s rest b w →
 unfolding shape-of-book
 fresh-size s rest w b h = fresh-length s rest w b h ∙ ap (λ t. extent (t .capacity)) (h .shape)
 
-holds-size : (s : Shape) (rest w : List ℕ) (b : Book) → Holds s rest b w → length w ≡ extent (s .capacity) + length rest
+pub holds-size : (s : Shape) (rest w : List ℕ) (b : Book) → Holds s rest b w → length w ≡ extent (s .capacity) + length rest
 unfolding shape-of-book
 holds-size s rest w b h =
     holds-length s rest w b h ∙ ap (λ t. extent (t .capacity) + length rest) (h .shape)
@@ -56,12 +57,12 @@ unfolding empty rows-allowed ordered distinct trials
 empty-sound s h =
     record { shaped = h; within-box = zero-le; held-within = zero-le; rows-fit = refl; in-order = refl; apart = refl }
 
--- What a start that is done leaves.
-pub record Started (before : List ℕ) (s : Shape) : Type 0 where
+-- What a start or a loading that is done has left: words that hold the fresh archive of the book that it opened.
+pub record Begun (before begun : List ℕ) (s : Shape) (b : Book) : Type 0 where
   pub size : length before ≡ extent (s .capacity) + length (drop (extent (s .capacity)) before)
-  pub holds : Holds s (drop (extent (s .capacity)) before) (opened (s .capacity) (s .rx) (s .ry) (s .rz)) (start before s .words)
+  pub holds : Holds s (drop (extent (s .capacity)) before) b begun
 
-pub started : (before : List ℕ) (s : Shape) → start before s .refusal ≡ 0 → Started before s
+pub started : (before : List ℕ) (s : Shape) → start before s .refusal ≡ 0 → Begun before (start before s .words) s (opened-by s)
 unfolding start start-rows
 started before s e =
     let passed : start-rows before s ≡ 0 = sym (leaves-refusal before [] (start-rows before s) 0 _ []) ∙ e in
@@ -79,26 +80,29 @@ started before s e =
     }
 
 -- The words before the extent and behind it.
-holds-front : (s : Shape) (rest w : List ℕ) (b : Book) → Holds s rest b w → take (extent (s .capacity)) w ≡ fresh b
+pub holds-front : (s : Shape) (rest w : List ℕ) (b : Book) → Holds s rest b w → take (extent (s .capacity)) w ≡ fresh b
 holds-front s rest w b h = rw (h .words) (take-at (fresh b) rest (extent (s .capacity)) (fresh-size s rest w b h))
 
-holds-behind : (s : Shape) (rest w : List ℕ) (b : Book) → Holds s rest b w → drop (extent (s .capacity)) w ≡ rest
+pub holds-behind : (s : Shape) (rest w : List ℕ) (b : Book) → Holds s rest b w → drop (extent (s .capacity)) w ≡ rest
 holds-behind s rest w b h = rw (h .words) (drop-at (fresh b) rest (extent (s .capacity)) (fresh-size s rest w b h))
 
--- A whole history: what holds after it, with the book's answers.
-pub whole-history : (before : List ℕ) (s : Shape) (calls : List Call) → start before s .refusal ≡ 0
-    → RunsAlike s (drop (extent (s .capacity)) before) (start before s .words) (opened (s .capacity) (s .rx) (s .ry) (s .rz)) (length before) calls
-whole-history before s calls e =
-    let begun = started before s e in
-    rw (begun .size) (runs-alike calls s _ (start before s .words) _ (begun .holds))
+module _ (before begun : List ℕ) (s : Shape) (b : Book) (h : Begun before begun s b) (calls : List Call) where
+  -- A whole history: what holds after it, with the book's answers.
+  pub whole-history : RunsAlike s (drop (extent (s .capacity)) before) begun b (length before) calls
+  whole-history = rw (h .size) (runs-alike calls s _ begun b (h .holds))
 
--- Term 3: "for every such list, the archive's words after it are those of a fresh archive .. and every call has
--- answered as the trial book of document 01 does".
-pub history : (before : List ℕ) (s : Shape) (calls : List Call) → start before s .refusal ≡ 0 → Agrees before s calls
-history before s calls e =
-    let run = whole-history before s calls e in
-    record {
-      words = holds-front s _ _ _ (run .holds);
-      words-behind = holds-behind s _ _ _ (run .holds);
-      answers = run .answers;
-    }
+  -- Term 3: "for every such list, the archive's words after it are those of a fresh archive .. and every call has
+  -- answered as the trial book of document 01 does".
+  pub history : Agrees before begun b calls
+  unfolding shape-of-book
+  history =
+      let run = whole-history in
+      let same : b .capacity ≡ s .capacity = ap (λ t. t .capacity) (h .holds .shape) in
+      record {
+        words = ap (λ k. take (extent k) (run-words calls begun)) same ∙ holds-front s _ _ _ (run .holds);
+        words-behind =
+            ap (λ k. drop (extent k) (run-words calls begun)) same
+            ∙ holds-behind s _ _ _ (run .holds)
+            ∙ ap (λ k. drop (extent k) before) (sym same);
+        answers = run .answers;
+      }

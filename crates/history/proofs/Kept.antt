@@ -25,6 +25,7 @@ use Rattle.history.proofs.Sorting.{sorted-cover, sorted-member, member-
 use Rattle.history.proofs.Thinning.{book-row, fresh-rows, fresh-count, fresh-counted, fresh-trials}
 use Rattle.history.proofs.Steps.{Holds}
 use Rattle.history.proofs.Moves.{joint-answers}
+use Rattle.history.proofs.EqualTrials.{equal-contribute-0}
 
 module _ (s : Shape) (rest w : List ℕ) (b : Book) (h : Holds s rest b w) where
   reads : read w ≡ fresh-archive b
@@ -99,6 +100,7 @@ module _ (s : Shape) (rest w : List ℕ) (b : Book) (h : Holds s rest b w) where
       record {
         total = total-is;
         contribution = contribution-is;
+        equal-trials = λ t u mt mu d e. contribution-is t mt ∙ equal-contribute-0 (reference s) t u (b .trials) mt mu d e;
         joint = λ t u mt mu d.
             joint-answers w passes (t .number) (u .number) (survivor-held t mt) (survivor-held u mu) d
             ∙ ap (λ k. record { refusal = 0; value = k }) (joint-is t u mt mu);

@@ -4,6 +4,7 @@ pub mod Thinning
 pub mod Steps
 pub mod Histories
 pub mod Moves
+pub mod EqualTrials
 pub mod Kept
 pub mod Terms
 pub mod Stars

@@ -9,8 +9,8 @@ use Rattle.words.specs.Layout.{layout, extent}
 use Rattle.calls.specs.Calls.{place}
 use Rattle.calls.specs.Counted.{counted}
 use Rattle.calls.specs.Lent
-use Rattle.calls.specs.Lent.{Outcome, start}
-use Rattle.history.specs.Book.{Book, Request, Reply, book-turn, opened}
+use Rattle.calls.specs.Lent.{Outcome}
+use Rattle.history.specs.Book.{Book, Request, Reply, book-turn}
 
 -- A call of the list: "each call is lent the words that the last one left, or only a first part of them" (lent, how
 -- many), with any arguments, and for a reduce any log words.
@@ -95,13 +95,11 @@ fresh-archive b = counted (shape-of-book b) (sorted (b .trials))
 unfoldable pub fresh : Book → List ℕ
 fresh b = layout (fresh-archive b)
 
--- Term 3's claim about a whole list of calls, after a start with these arguments on these words: the words before
+-- Term 3's claim about a whole list of calls. The slice held the words `before`; then a start or a loading that is done
+-- wrote the archive whole: it left the words `begun` and opened the book b. After the calls the words before
 -- 8 + 5 × capacity are those of a fresh archive of the book's survivors, the words behind are untouched, and every
 -- answer and every log is the book's.
-pub record Agrees (before : List ℕ) (s : Shape) (calls : List Call) : Type 0 where
-  pub words :
-      take (extent (s .capacity)) (run-words calls (start before s .words)) ≡ fresh (run-book (length before) calls (opened (s .capacity) (s .rx) (s .ry) (s .rz)))
-  pub words-behind :
-      drop (extent (s .capacity)) (run-words calls (start before s .words)) ≡ drop (extent (s .capacity)) before
-  pub answers :
-      run-answers calls (start before s .words) ≡ book-answers (length before) calls (opened (s .capacity) (s .rx) (s .ry) (s .rz))
+pub record Agrees (before begun : List ℕ) (b : Book) (calls : List Call) : Type 0 where
+  pub words : take (extent (b .capacity)) (run-words calls begun) ≡ fresh (run-book (length before) calls b)
+  pub words-behind : drop (extent (b .capacity)) (run-words calls begun) ≡ drop (extent (b .capacity)) before
+  pub answers : run-answers calls begun ≡ book-answers (length before) calls b

@@ -22,11 +22,13 @@ pub record HoldsJust (w : List ℕ) (s : Shape) (trials : List Trial) : Type 0 w
 
 -- "The kept total is the number of cells that some trial dominates; a contribution is the number that this trial
 -- dominates and no other does. Joint contributions and the gain of a point not held are such counts too." And the
--- audit says yes.
+-- audit says yes. "Of two equal trials each contributes 0": t is any one of the two.
 pub record KeepsCounts (w : List ℕ) (s : Shape) (trials : List Trial) : Type 0 where
   pub total : read w .sum ≡ Counts.total (reference s) (points trials)
   pub contribution : (t : Trial) → List·Memᴰ t trials
       → row-of (t .number) (read w .rows) .kept ≡ Counts.contribution (reference s) (points trials) (point t)
+  pub equal-trials : (t u : Trial) → List·Memᴰ t trials → List·Memᴰ u trials → (t .number ≡ u .number → ⊥) → point t ≡ point u
+      → row-of (t .number) (read w .rows) .kept ≡ 0
   pub joint : (t u : Trial) → List·Memᴰ t trials → List·Memᴰ u trials → (t .number ≡ u .number → ⊥)
       → Lent.joint w (t .number) (u .number)
       ≡ record { refusal = 0; value = Counts.joint (reference s) (points trials) (point t) (point u) }

@@ -1,0 +1,327 @@
+-- Words from 8 + 5 × capacity on are neither read nor written: the proof, by three forms of calls. A question answers by
+-- its rows and the archive that it reads; insert, remove and reduce write a new archive besides; start and loading go by
+-- the capacity given.
+use Prim.Native.Nat.{ℕ, zero, suc, _+_, _-_, _*_, _≤_, min}
+use mathlib.Core.Path.{_≡_, refl, sym, ap, _∙_}
+use mathlib.Core.Bool.{Bool, true, false, not}
+use mathlib.Core.List.{List, _∷_, _++_, map, []}
+use mathlib.Core.Option.{Option, none, some}
+use native.Mathlib.Omega.{arith}
+use lib.Dec.{leb, ltb}
+use lib.ListN.{length, getD, take, drop, length-take}
+use lib.Seq.{take-all, take-at, drop-at}
+use borrow.Author.Tests.{ltb-false, le-ltb, not-false}
+use Rattle.hypervolume.specs.Cells.{holds}
+use Rattle.hypervolume.proofs.Tests.{Compared, below, above, compared}
+use Rattle.text.specs.Lines.{Numbers}
+use Rattle.words.specs.Archive.{Trial, Shape, Archive}
+use Rattle.words.specs.Layout.{extent, layout, word, read-shape, read, behind}
+use Rattle.words.specs.Format.{guard, shape-allowed, archive-rows}
+use Rattle.words.proofs.Reading.{read-layout, length-layout, behind-layout}
+use Rattle.words.proofs.Passed.{guard-none, Sound, sound-passes, passed, passed-both}
+use Rattle.calls.specs.Calls.{empty, inserted, insert-rows, removed, remove-rows, least-row, least-rows, joint-of, joint-rows, insert-gain, gain-rows, share-of, audited, dropped, after-drops, notes, reduce-rows}
+use Rattle.calls.specs.declared.Answer.{Answer}
+use Rattle.calls.specs.Lent
+use Rattle.calls.specs.Lent.{Outcome, leaves, answer, least-answer, start-rows}
+use Rattle.calls.proofs.Answers.{rows-refused}
+use Rattle.calls.proofs.Counted.{audited-counted}
+use Rattle.calls.proofs.Sound.{insert-passed, remove-passed, inserted-sound, removed-sound}
+use Rattle.calls.proofs.Drops.{drops-down}
+use Rattle.card.specs.Card
+use Rattle.card.specs.Card.{shape-on, lines, refused, accepted}
+use Rattle.card.specs.Verdict.{Verdict, refusal, archive, shape-rows, judge, carried-out}
+use Rattle.card.proofs.Judging.{loads}
+use Rattle.card.proofs.Theorems.{same-answer}
+use Rattle.history.proofs.Histories.{holds-front, holds-behind}
+use Rattle.reports.specs.Report
+use Rattle.reports.specs.Report.{report-text, report-rows, output, reported}
+use Rattle.terms.specs.Loading.{no-numbers, numbers-on, card-shape}
+use Rattle.terms.specs.Behind.{ArchiveCall, written, only-read, result, capacity-for, reach, DoneAlike, WordsBehind}
+use Rattle.terms.proofs.Loading.{card-begun}
+use Rattle.terms.proofs.Seen.{Alike, Seen, turned-down, held, seen}
+
+-- Words that rows 1 to 3 refuse, and words that hold an archive.
+refused-row : (w : List ℕ) (n rest : ℕ) → archive-rows w 0 ≡ suc n → archive-rows w rest ≡ suc n
+refused-row w n rest e = rows-refused w (suc n) rest (sym e) (λ z. omega arith)
+
+reads : (w b : List ℕ) (a : Archive) → w ≡ layout a ++ b → read w ≡ a
+reads w b a e = ap read e ∙ read-layout a b
+
+passes : (w b : List ℕ) (a : Archive) → w ≡ layout a ++ b → Sound a → (rest : ℕ) → archive-rows w rest ≡ rest
+passes w b a e s rest = ap (λ k. archive-rows k rest) e ∙ sound-passes a b rest s
+
+-- Questions: what comes of the refusal and of the archive that is read, where a refusal leaves nothing of the archive.
+question : {A : Type 0} (rows : Archive → ℕ) (f : ℕ → Archive → A) → ((n : ℕ) (a b : Archive) → f (suc n) a ≡ f (suc n) b)
+    → (v w : List ℕ) → Alike (extent (word v 1)) v w → f (archive-rows v (rows (read v))) (read v) ≡ f (archive-rows w (rows (read w))) (read w)
+question rows f k v w h = go (seen v w h)
+  where
+    go : Seen v w → f (archive-rows v (rows (read v))) (read v) ≡ f (archive-rows w (rows (read w))) (read w)
+    go (turned-down n e d) =
+        rw (refused-row v n (rows (read v)) e, refused-row w n (rows (read w)) d) (k n (read v) (read w))
+    go (held a b c s e d) =
+        rw (reads v b a e, reads w c a d, passes v b a e s (rows a), passes w c a d s (rows a))
+
+answers-alike : (rows value : Archive → ℕ) (v w : List ℕ) → Alike (extent (word v 1)) v w
+    → answer (archive-rows v (rows (read v))) (value (read v)) ≡ answer (archive-rows w (rows (read w))) (value (read w))
+unfolding answer
+answers-alike rows value v w h = question rows (λ k a. answer k (value a)) (λ n a b. refl) v w h
+
+-- Two outcomes that are alike before a place.
+record LeftAlike (e : ℕ) (o p : Outcome) : Type 0 where
+  answer : written o .answer ≡ written p .answer
+  words : take e (o .words) ≡ take e (p .words)
+  log : o .log ≡ p .log
+
+leaves-alike : (v w log : List ℕ) (k value : ℕ) (new b c noted : List ℕ) (e : ℕ) → take e v ≡ take e w → (k ≡ 0 → length new ≡ e)
+    → LeftAlike e (leaves v log k value (new ++ b) noted) (leaves w log k value (new ++ c) noted)
+unfolding leaves written
+leaves-alike v w log zero value new b c noted e same fits =
+    record { answer = refl; words = take-at new b e (fits refl) ∙ sym (take-at new c e (fits refl)); log = refl }
+leaves-alike v w log (suc k) value new b c noted e same fits = record { answer = refl; words = same; log = refl }
+
+leaves-refused : (v w log : List ℕ) (n : ℕ) (i j : ℕ) (a b c d : List ℕ) (e : ℕ) → take e v ≡ take e w
+    → LeftAlike e (leaves v log (suc n) i a c) (leaves w log (suc n) j b d)
+unfolding leaves written
+leaves-refused v w log n i j a b c d e same = record { answer = refl; words = same; log = refl }
+
+leaves-behind : (w log : List ℕ) (k value : ℕ) (new noted : List ℕ) (e : ℕ) → (k ≡ 0 → length new ≡ e)
+    → drop e (leaves w log k value (new ++ drop e w) noted .words) ≡ drop e w
+unfolding leaves
+leaves-behind w log zero value new noted e fits = drop-at new (drop e w) e (fits refl)
+leaves-behind w log (suc k) value new noted e fits = refl
+
+-- Calls that write: rows, value, new archive and notes, each from the archive that is read; the new archive takes as many
+-- words as the old one.
+record Deed : Type 0 where
+  rows : Archive → ℕ
+  value : Archive → ℕ
+  new : Archive → Archive
+  noted : Archive → List ℕ
+  fits : (a : Archive) → Sound a → rows a ≡ 0 → length (layout (new a)) ≡ extent (a .shape .capacity)
+
+abbrev outcome : Deed → List ℕ → List ℕ → Outcome
+outcome d log w =
+    leaves w log (archive-rows w (d .rows (read w))) (d .value (read w)) (layout (d .new (read w)) ++ behind w) (d .noted (read w))
+
+outcome-held : (d : Deed) (log w b : List ℕ) (a : Archive) → w ≡ layout a ++ b → Sound a
+    → outcome d log w ≡ leaves w log (d .rows a) (d .value a) (layout (d .new a) ++ b) (d .noted a)
+outcome-held d log w b a e s =
+    let after : behind w ≡ b = ap behind e ∙ behind-layout a b (s .held-within) in
+    rw (reads w b a e, passes w b a e s (d .rows a), after)
+
+deed-alike : (d : Deed) (log v w : List ℕ) → Alike (extent (word v 1)) v w → LeftAlike (extent (word v 1)) (outcome d log v) (outcome d log w)
+unfolding read read-shape
+deed-alike d log v w h = go (seen v w h)
+  where
+    go : Seen v w → LeftAlike (extent (word v 1)) (outcome d log v) (outcome d log w)
+    go (turned-down n e f) =
+        rw (refused-row v n (d .rows (read v)) e, refused-row w n (d .rows (read w)) f)
+        (leaves-refused v w log n _ _ _ _ _ _ (extent (word v 1)) (h .same))
+    go (held a b c s e f) =
+        let size : extent (a .shape .capacity) ≡ extent (word v 1) = ap (λ k. extent (k .shape .capacity)) (sym (reads v b a e)) in
+        rw (outcome-held d log v b a e s, outcome-held d log w c a f s)
+        (leaves-alike v w log (d .rows a) (d .value a) (layout (d .new a)) b c (d .noted a) (extent (word v 1)) (h .same) (λ z. d .fits a s z ∙ size))
+
+deed-behind : (d : Deed) (log w : List ℕ) → drop (extent (word w 1)) (outcome d log w .words) ≡ drop (extent (word w 1)) w
+unfolding behind read read-shape
+deed-behind d log w =
+    leaves-behind w log (archive-rows w (d .rows (read w))) (d .value (read w)) (layout (d .new (read w))) (d .noted (read w)) (extent (word w 1))
+    (λ e. let both = passed-both w (d .rows (read w)) e in d .fits (read w) (passed w (both .0) .sound) (both .1))
+
+unfoldable insert-deed : Trial → Deed
+unfolding inserted
+insert-deed t =
+    record {
+      rows = λ a. insert-rows a t;
+      value = λ a. 0;
+      new = λ a. inserted a t;
+      noted = λ a. [];
+      fits = λ a s e. length-layout (inserted a t) (inserted-sound a t s (insert-passed a t e) .held-within);
+    }
+
+unfoldable remove-deed : ℕ → Deed
+unfolding removed
+remove-deed n =
+    record {
+      rows = λ a. remove-rows a n;
+      value = λ a. 0;
+      new = λ a. removed a n;
+      noted = λ a. [];
+      fits = λ a s e. length-layout (removed a n) (removed-sound a n s (remove-passed a n e) .held-within);
+    }
+
+drops-shape : (n : ℕ) (a : Archive) → after-drops n a .shape ≡ a .shape
+unfolding after-drops dropped removed
+drops-shape zero a = refl
+drops-shape (suc n) a = drops-shape n (dropped a)
+
+reduce-fits : (k log : ℕ) (a : Archive) → Sound a → reduce-rows a k log ≡ 0
+    → length (layout (after-drops (length (a .rows) - k) a)) ≡ extent (a .shape .capacity)
+unfolding reduce-rows
+reduce-fits k log a s e =
+    let enough = guard-none _ _ _ e in
+    let room = guard-none _ _ _ (enough .1) in
+    let yes = guard-none _ _ _ (room .1) in
+    let most : k ≤ length (a .rows) = ltb-false _ _ (enough .0) in
+    let n : ℕ = length (a .rows) - k in
+    let all = drops-down n a s (audited-counted a (not-false _ (yes .0))) (omega arith) in
+    length-layout (after-drops n a) (all .sound .held-within) ∙ ap (λ q. extent (q .capacity)) (drops-shape n a)
+
+unfoldable reduce-deed : ℕ → ℕ → Deed
+reduce-deed k log =
+    record {
+      rows = λ a. reduce-rows a k log;
+      value = λ a. length (a .rows) - k;
+      new = λ a. after-drops (length (a .rows) - k) a;
+      noted = λ a. notes (length (a .rows) - k) a;
+      fits = λ a s e. reduce-fits k log a s e;
+    }
+
+-- Start: its earlier contents don't matter, and both slices are long enough.
+empty-fits : (s : Shape) → length (layout (empty s)) ≡ extent (s .capacity)
+unfolding empty
+empty-fits s = length-layout (empty s) (omega arith)
+
+start-rows-long : (w : List ℕ) (s : Shape) → extent (s .capacity) ≤ length w → start-rows w s ≡ guard (not (shape-allowed s)) 4 0
+unfolding start-rows guard
+start-rows-long w s l = rw (le-ltb (length w) (extent (s .capacity)) l)
+
+start-alike : (s : Shape) (v w : List ℕ) → Alike (extent (s .capacity)) v w → LeftAlike (extent (s .capacity)) (Lent.start v s) (Lent.start w s)
+unfolding Lent.start
+start-alike s v w h =
+    rw (start-rows-long v s (h .long), start-rows-long w s (h .long-too))
+    (leaves-alike v w [] _ 0 (layout (empty s)) _ _ [] (extent (s .capacity)) (h .same) (λ z. empty-fits s))
+
+start-behind : (s : Shape) (w : List ℕ) → drop (extent (s .capacity)) (Lent.start w s .words) ≡ drop (extent (s .capacity)) w
+unfolding Lent.start
+start-behind s w = leaves-behind w [] (start-rows w s) 0 (layout (empty s)) [] (extent (s .capacity)) (λ z. empty-fits s)
+
+-- Loading: of the slice only the length is judged, on line 1; a card that is accepted leaves the book's fresh archive.
+judge-alike : (m n : ℕ) (ls : List (Option Numbers)) (e : ℕ)
+    → e ≡ extent (shape-on (getD (map numbers-on ls) 0 no-numbers) .capacity) → e ≤ m → e ≤ n → judge m ls ≡ judge n ls
+unfolding judge shape-rows numbers-on guard
+judge-alike m n [] e q l h = refl
+judge-alike m n (none ∷ ls) e q l h = refl
+judge-alike m n (some v ∷ ls) e q l h =
+    rw (← q, le-ltb m e l, le-ltb n e h)
+
+load-answers : (v w card : List ℕ) → Alike (extent (card-shape card .capacity)) v w → Card.load v card .answer ≡ Card.load w card .answer
+unfolding card-shape
+load-answers v w card h =
+    ap (λ k. k .answer) (loads v card)
+    ∙ same-answer v w (judge (length v) (lines card))
+    ∙ ap (λ j. carried-out w j .answer) (judge-alike (length v) (length w) (lines card) _ refl (h .long) (h .long-too))
+    ∙ sym (ap (λ k. k .answer) (loads w card))
+
+verdict-refused : (w : List ℕ) (v : Verdict) (n : ℕ) → carried-out w v .answer .refusal ≡ suc n → carried-out w v .words ≡ w
+unfolding carried-out refused accepted
+verdict-refused w (refusal number line) n e = refl
+verdict-refused w (archive a) n e = absurd (let no : ⊥ = omega arith in no)
+
+load-refused : (w card : List ℕ) (n : ℕ) → Card.load w card .answer .refusal ≡ suc n → Card.load w card .words ≡ w
+load-refused w card n e =
+    ap (λ k. k .words) (loads w card)
+    ∙ verdict-refused w (judge (length w) (lines card)) n (ap (λ k. k .answer .refusal) (sym (loads w card)) ∙ e)
+
+load-words : (v w card : List ℕ) → Alike (extent (card-shape card .capacity)) v w
+    → take (extent (card-shape card .capacity)) (Card.load v card .words) ≡ take (extent (card-shape card .capacity)) (Card.load w card .words)
+load-words v w card h = go (Card.load v card .answer .refusal) refl
+  where
+    too : (k : ℕ) → Card.load v card .answer .refusal ≡ k → Card.load w card .answer .refusal ≡ k
+    too k q = ap (λ a. a .refusal) (sym (load-answers v w card h)) ∙ q
+
+    go : (k : ℕ) → Card.load v card .answer .refusal ≡ k
+        → take (extent (card-shape card .capacity)) (Card.load v card .words) ≡ take (extent (card-shape card .capacity)) (Card.load w card .words)
+    go zero q =
+        holds-front (card-shape card) _ _ _ (card-begun v card q .holds)
+        ∙ sym (holds-front (card-shape card) _ _ _ (card-begun w card (too 0 q) .holds))
+    go (suc n) q = rw (load-refused v card n q, load-refused w card n (too (suc n) q)) (h .same)
+
+load-behind : (w card : List ℕ) → drop (extent (card-shape card .capacity)) (Card.load w card .words) ≡ drop (extent (card-shape card .capacity)) w
+load-behind w card = go (Card.load w card .answer .refusal) refl
+  where
+    go : (k : ℕ) → Card.load w card .answer .refusal ≡ k
+        → drop (extent (card-shape card .capacity)) (Card.load w card .words) ≡ drop (extent (card-shape card .capacity)) w
+    go zero q = holds-behind (card-shape card) _ _ _ (card-begun w card q .holds)
+    go (suc n) q = rw (load-refused w card n q)
+
+-- What the call leaves and answers, by its outcomes.
+outcomes-alike : (c : ArchiveCall) (v w : List ℕ) (o p : Outcome) → result c v ≡ written o → result c w ≡ written p
+    → LeftAlike (reach c v) o p → DoneAlike c v w
+unfolding written
+outcomes-alike c v w o p e f l = record { answer = rw (e, f) (l .answer); words = rw (e, f) (l .words); other = rw (e, f) (l .log) }
+
+abbrev as-numbers : Answer → List ℕ
+as-numbers a = a .refusal ∷ a .value ∷ []
+
+long-alike : (c : ArchiveCall) (v w : List ℕ) → Alike (reach c v) v w → DoneAlike c v w
+unfolding reach capacity-for extent result only-read insert-deed remove-deed reduce-deed Lent.insert Lent.remove Lent.reduce Lent.least Lent.joint Lent.gain-answer Lent.share Lent.audit Report.report reported report-rows least-answer output
+long-alike (ArchiveCall.start s) v w h =
+    outcomes-alike _ v w _ _ refl refl (start-alike s v w h)
+long-alike (ArchiveCall.insert t) v w h =
+    outcomes-alike _ v w _ _ refl refl (deed-alike (insert-deed t) [] v w h)
+long-alike (ArchiveCall.remove n) v w h =
+    outcomes-alike _ v w _ _ refl refl (deed-alike (remove-deed n) [] v w h)
+long-alike (ArchiveCall.reduce k log) v w h =
+    outcomes-alike _ v w _ _ refl refl (deed-alike (reduce-deed k (length log)) log v w h)
+long-alike ArchiveCall.least v w h =
+    let same = question least-rows (λ n a. least-answer n (least-row (a .rows))) (λ n a b. refl) v w h in
+    record { answer = ap (λ a. a .refusal ∷ a .number ∷ a .contribution ∷ []) same; words = h .same; other = refl }
+long-alike (ArchiveCall.joint m n) v w h =
+    let same = answers-alike (λ a. joint-rows a m n) (λ a. joint-of a m n) v w h in
+    record { answer = ap as-numbers same; words = h .same; other = refl }
+long-alike (ArchiveCall.gain p) v w h =
+    let same = answers-alike (λ a. gain-rows a p) (λ a. insert-gain a p) v w h in
+    record { answer = ap as-numbers same; words = h .same; other = refl }
+long-alike ArchiveCall.share v w h =
+    let same = answers-alike (λ a. 0) share-of v w h in
+    record { answer = ap as-numbers same; words = h .same; other = refl }
+long-alike ArchiveCall.audit v w h =
+    let same = answers-alike (λ a. 0) (λ a. holds (audited a)) v w h in
+    record { answer = ap as-numbers same; words = h .same; other = refl }
+long-alike (ArchiveCall.load card) v w h =
+    record {
+      answer = ap (λ a. a .refusal ∷ a .line ∷ a .count ∷ []) (load-answers v w card h);
+      words = load-words v w card h;
+      other = refl;
+    }
+long-alike (ArchiveCall.report out) v w h =
+    let rows : Archive → ℕ = λ a. guard (ltb (length out) (53 * (length (a .rows) + 1))) 16 0 in
+    let same = answers-alike rows (λ a. length (report-text a)) v w h in
+    record {
+      answer = ap as-numbers same;
+      words = h .same;
+      other = question rows (λ n a. output n (report-text a) out) (λ n a b. refl) v w h;
+    }
+
+-- Slices that agree are both long enough, or are equal.
+not-read : (c : ArchiveCall) (v w : List ℕ) → take (reach c v) v ≡ take (reach c v) w → DoneAlike c v w
+not-read c v w same = go (leb (reach c v) (length v)) (compared (reach c v) (length v))
+  where
+    sizes : min (reach c v) (length v) ≡ min (reach c v) (length w)
+    sizes = sym (length-take (reach c v) v) ∙ ap length same ∙ length-take (reach c v) w
+
+    go : (x : Bool) → Compared (reach c v) (length v) x → DoneAlike c v w
+    go true (below l) = long-alike c v w (record { long = l; long-too = omega (arith, sizes); same = same })
+    go false (above l) =
+        let equal : v ≡ w =
+        sym (take-all (reach c v) v (omega arith)) ∙ same ∙ take-all (reach c v) w (omega (arith, sizes)) in
+        rw (← equal) (record { answer = refl; words = refl; other = refl })
+
+not-written : (c : ArchiveCall) (w : List ℕ) → drop (reach c w) (result c w .words) ≡ drop (reach c w) w
+unfolding reach capacity-for extent result written only-read insert-deed remove-deed reduce-deed Lent.insert Lent.remove Lent.reduce
+not-written (ArchiveCall.start s) w = start-behind s w
+not-written (ArchiveCall.insert t) w = deed-behind (insert-deed t) [] w
+not-written (ArchiveCall.remove n) w = deed-behind (remove-deed n) [] w
+not-written (ArchiveCall.reduce k log) w = deed-behind (reduce-deed k (length log)) log w
+not-written ArchiveCall.least w = refl
+not-written (ArchiveCall.joint m n) w = refl
+not-written (ArchiveCall.gain p) w = refl
+not-written ArchiveCall.share w = refl
+not-written ArchiveCall.audit w = refl
+not-written (ArchiveCall.load card) w = load-behind w card
+not-written (ArchiveCall.report out) w = refl
+
+-- "Words from 8 + 5 × capacity on are neither read nor written."
+pub words-behind : WordsBehind
+words-behind = record { not-read = not-read; not-written = not-written }
