@@ -140,7 +140,8 @@ extern "C" {
  * the log of a reduction from count trials to k, bytes of a report on so many
  * trials. A k above the count needs no log, since ta_reduce refuses it; nor
  * does a negative k. TA_LOG_WORDS does not wrap: it is 0 for these, and
- * (size_t)-1 where a size_t cannot hold the length.
+ * (size_t)-1 where a size_t cannot hold the length. It may evaluate its
+ * arguments more than once.
  */
 #define TA_WORDS(capacity) (8 + 5 * (size_t)(capacity))
 #define TA_LOG_WORDS(count, k) \
