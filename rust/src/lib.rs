@@ -32,7 +32,7 @@
 //! The library itself is `libtrial_archive.a`. It is sought in `target/staticlib` of the
 //! repository, where `rt staticlib trial_archive` writes it, or in the folder that the variable
 //! `TRIAL_ARCHIVE_LIB_DIR` names. Run the tests by `cargo test --release`: they make hundreds of
-//! thousands of calls, which take seconds then and minutes in a debug build.
+//! thousands of calls, which take seconds then and a minute or two in a debug build.
 //!
 //! # The archive's words
 //!
