@@ -1,2 +1,2 @@
--- What the proofs of `print` and `put_refusal` use.
+-- What the proofs of `print_card`, `print` and `put_refusal` use.
 mod Printouts

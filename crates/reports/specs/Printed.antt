@@ -1,5 +1,5 @@
 -- What the report program prints (document 01, "Card and report").
-use Prim.Native.Nat.{ℕ, zero, suc, _≤_}
+use Prim.Native.Nat.{ℕ, zero, suc, _*_, _≤_}
 use mathlib.Core.Path.{_≡_}
 use mathlib.Core.List.{List, _∷_, _++_, []}
 use lib.ListN.{length, take, replicate}
@@ -31,5 +31,20 @@ printed card = shown (loaded card .answer .refusal) (loaded card)
 pub record Prints (card out : List ℕ) (r : ℕ) (after : List ℕ) : Type 0 where
   pub text : after ≡ put out 0 (printed card)
   pub long : r ≡ length (printed card)
+  pub within : r ≤ length after
+  pub part : r ≡ length (take r after)
+
+-- A program has read the first `read` bytes of a card to the front of its input. What printing asks of the memory lent:
+pub record PrintRoom (input : List ℕ) (read : ℕ) (out : List ℕ) : Type 0 where
+  -- room for 514 lines of a card, which are all that decide (`enough-read` of Theorems)
+  pub lines : 33 * 514 ≤ length input
+  pub bytes : read ≤ length input
+  -- room for the longest report, of 512 trials
+  pub report : 53 * 513 ≤ length out
+
+-- What it then prints: whatever card has the bytes read, as far as the input has room for them, the output is what the
+-- program prints of that whole card.
+pub record PrintsRead (input : List ℕ) (read : ℕ) (out : List ℕ) (r : ℕ) (after : List ℕ) : Type 0 where
+  pub whole : (card : List ℕ) → take (length input) card ≡ take read input → Prints card out r after
   pub within : r ≤ length after
   pub part : r ≡ length (take r after)

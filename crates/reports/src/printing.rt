@@ -6,7 +6,7 @@ ghost use mathlib.Core.Path.{_≡_};
 ghost use Prim.Native.Nat.{_≤_};
 ghost use lib.ListN.{length};
 ghost use Rattle.slices.specs.Put.{put};
-ghost use Rattle.reports.specs.Printed.{refusal-line, Prints};
+ghost use Rattle.reports.specs.Printed.{refusal-line, Prints, PrintRoom, PrintsRead};
 
 // Writes the line of a refused card.
 fn put_refusal(out: &mut [u8], refusal: u64, line: u64)
@@ -20,7 +20,7 @@ fn put_refusal(out: &mut [u8], refusal: u64, line: u64)
 
 // Writes the report of the card, or the line of a refused card, and answers the length. The longest report, of 512
 // trials, has 27,189 bytes.
-pub fn print(card: &[u8], out: &mut [u8]) -> usize
+fn print_card(card: &[u8], out: &mut [u8]) -> usize
     requires { ⌜ 27189 ≤ length (now out) ⌝ }
     ensures { λ r. ⌜ Prints (now (card .entry)) (now (out .entry)) r (now (out .exit)) ⌝ }
 {
@@ -31,4 +31,14 @@ pub fn print(card: &[u8], out: &mut [u8]) -> usize
         return 17;
     }
     report(&words, out).value as usize
+}
+
+// The same for a card of any length, of which `read` bytes were read to the front of the input: all of it, or as much as
+// fills the input. Lines behind the 514th decide nothing, so room for 514 lines of 33 bytes is enough. In a shorter input a
+// line would be cut that decides.
+pub fn print(input: &[u8], read: usize, out: &mut [u8]) -> usize
+    requires { ⌜ PrintRoom (now input) read (now out) ⌝ }
+    ensures { λ r. ⌜ PrintsRead (now (input .entry)) read (now (out .entry)) r (now (out .exit)) ⌝ }
+{
+    print_card(&input[..read], out)
 }

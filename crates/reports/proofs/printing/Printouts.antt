@@ -3,7 +3,7 @@ use Prim.Native.Nat.{ℕ, zero, suc, _+_, _*_, _≤_}
 use mathlib.Core.Path.{_≡_, refl, sym, ap, _∙_}
 use mathlib.Core.List.{List, append-assoc}
 use native.Mathlib.Omega.{arith}
-use lib.ListN.{length, drop, set, replicate, length-append, length-take, length-replicate}
+use lib.ListN.{length, take, drop, set, replicate, length-append, length-take, length-replicate}
 use Rattle.slices.specs.Put.{put}
 use Rattle.text.specs.Lines.{newline}
 use Rattle.text.specs.Justified.{justified}
@@ -18,7 +18,8 @@ use Rattle.card.proofs.Judging.{loads}
 use Rattle.card.proofs.Verdicts as verdicts
 use Rattle.card.proofs.Theorems.{not-zero, cards-load}
 use Rattle.reports.specs.Report.{report-text, report, reported}
-use Rattle.reports.specs.Printed.{refusal-line, shown, loaded, printed, Prints}
+use Rattle.reports.specs.Printed.{refusal-line, shown, loaded, printed, Prints, PrintsRead}
+use Rattle.reports.proofs.Theorems.{reports}
 use Rattle.reports.proofs.Laid.{Laid, laid-column, laid-byte}
 use Rattle.reports.proofs.reports.Reporting.{Reportable, reportable, length-report, report-done}
 
@@ -97,3 +98,16 @@ module _ (p card : List ℕ) (sized : length p ≡ 2568) {r : Loaded} {after : L
       prints card out (report-text (read after)) (a .value)
       (printed-by ∙ ap (λ k. shown k (load p card)) none ∙ ap (λ w. report-text (read w)) (sym words)) (told .1 ∙ sym (done .1))
       (sym value) (omega arith) same
+
+-- Of a card that is longer than the input, the part read decides.
+pub prints-read : (input : List ℕ) (read : ℕ) {out after : List ℕ} {r : ℕ} → 33 * 514 ≤ length input
+    → Prints (take read input) out r after → PrintsRead input read out r after
+prints-read input read {out} {after} {r} room p =
+    record {
+      whole = λ card begins.
+          let same : printed (take read input) ≡ printed card =
+          ap printed (sym begins) ∙ reports .enough-read card (length input) room in
+          record { text = rw same at (p .text); long = rw same at (p .long); within = p .within; part = p .part };
+      within = p .within;
+      part = p .part;
+    }

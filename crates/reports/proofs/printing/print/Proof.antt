@@ -1,55 +1,22 @@
--- `reports::printing::print` meets its contract: the line of a refusal, or a report, which is never refused here.
-use mathlib.Core.Path.{sym}
+-- `reports::printing::print` meets its contract: by `enough-read`, what was read of a card decides.
+use native.Mathlib.Omega.{arith}
 use borrow.Author.Needs.{needs}
-use Rattle.reports.proofs.printing.Printouts.{print-refused, print-report}
+use lib.ListN.{length-take}
+use Rattle.reports.proofs.printing.Printouts.{prints-read}
 use Rattle.reports.proofs.printing.print.Statement.{statement}
 use Rattle.reports.proofs.printing.print.Tie as tie
 
-long-enough-requires : tie.Need-long-enough-requires
-long-enough-requires c κs = search needs
+slice-aggregate-print-card : tie.Need-slice-aggregate-print-card
+slice-aggregate-print-card c = simp length-take (omega arith)
 
-slice-aggregate-read-card : tie.Need-slice-aggregate-read-card
-slice-aggregate-read-card c = search needs
-
-read-card-requires : tie.Need-read-card-requires
-read-card-requires c κs = search needs
-
-put-refusal-requires : tie.Need-put-refusal-requires
-put-refusal-requires c κs = search needs
+print-card-requires : tie.Need-print-card-requires
+print-card-requires c κs = search needs
 
 same-length : tie.Need-same-length
 same-length c = search needs
 
 returns : tie.Need-returns
-returns c =
-    print-refused _ _ (sym (c .before .before .before .before .before .before .before .before .before .long-enough .ensures)) (c .before .before .before .before .before .before .before .read-card .ensures) _ (c .before .before .before .before .if1 .taken) (c .before .before .before .before .before .before .before .before .before .before .before .before .pre)
-    (c .before .before .put-refusal .kept .0) (c .before .before .put-refusal .ensures)
-
-slice-aggregate-report : tie.Need-slice-aggregate-report
-slice-aggregate-report c = search needs
-
-report-requires : tie.Need-report-requires
-report-requires c κs = search needs
-
-same-length-2 : tie.Need-same-length-2
-same-length-2 c = search needs
-
-returns-2 : tie.Need-returns-2
-returns-2 c =
-    print-report _ _ (sym (c .before .before .before .before .before .before .before .before .before .before .long-enough .ensures)) (c .before .before .before .before .before .before .before .before .read-card .ensures) _ (c .before .before .before .before .before .if1 .left) (c .before .before .before .before .before .before .before .before .before .before .before .before .before .pre)
-    (c .before .before .report .kept .1 .0) (c .before .before .report .ensures)
+returns c = prints-read _ _ (omega arith) (c .before .before .print-card .ensures)
 
 pub print-spec : {M : Type 1} → statement M
-print-spec =
-    tie.close
-    (tie.spec
-    long-enough-requires
-    slice-aggregate-read-card
-    read-card-requires
-    put-refusal-requires
-    same-length
-    returns
-    slice-aggregate-report
-    report-requires
-    same-length-2
-    returns-2)
+print-spec = tie.close (tie.spec slice-aggregate-print-card print-card-requires same-length returns)

@@ -1,0 +1,2 @@
+-- What the contracts of the report program cite.
+pub mod Read
