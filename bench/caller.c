@@ -1,7 +1,10 @@
 /*
  * A caller of every call: document 01's card and report, its "Counts to meet",
- * and one meeting with each refusal. Prints what went wrong, and at the end
- * 'N passed, M failed'; ends with 1 where something failed.
+ * one meeting with each refusal, numbers as C passes them, and what the header
+ * defines: the structs' fields and the lengths. Lent memory stands between
+ * guards, and what a call only reads is compared after it. Prints what went
+ * wrong, and at the end 'N passed, M failed'; ends with 1 where something
+ * failed.
  */
 #include "trial_archive.h"
 
@@ -25,33 +28,65 @@ static void check(int holds, const char *text, int line)
     }
 }
 
-/* ---- an archive of capacity 8, with words behind it */
+/* ---- an archive of capacity 8: words behind it are lent too, guards are not */
 
-enum { WORDS = 8 + 5 * 8, BEHIND = 3 };
+enum { WORDS = TA_WORDS(8), BEHIND = 3, LENT = WORDS + BEHIND, GUARD = 4 };
 
 static const uint64_t MARK = 0x6d61726b6d61726bu;
 
-static uint64_t words[WORDS + BEHIND];
+static uint64_t memory[GUARD + LENT + GUARD];
+static uint64_t *const words = memory + GUARD;
 
-/* Starts the archive anew over words that hold anything. */
-static void start(uint32_t rx, uint32_t ry, uint32_t rz)
+static void fill(uint64_t *first, size_t count)
 {
     size_t i;
 
-    for (i = 0; i < LENGTH(words); i++) {
-        words[i] = MARK;
+    for (i = 0; i < count; i++) {
+        first[i] = MARK;
     }
-    CHECK(ta_start(words, LENGTH(words), rx, ry, rz, 8) == TA_DONE);
 }
 
-static uint64_t insert(uint64_t number, uint32_t x, uint32_t y, uint32_t z)
+static int is_filled(const uint64_t *first, size_t count)
 {
-    return ta_insert(words, LENGTH(words), number, x, y, z);
+    size_t i;
+
+    for (i = 0; i < count; i++) {
+        if (first[i] != MARK) {
+            return 0;
+        }
+    }
+    return 1;
+}
+
+/* The guards, and the words behind the archive, as start filled them. */
+static void check_guards(void)
+{
+    CHECK(is_filled(memory, GUARD));
+    CHECK(is_filled(words + WORDS, BEHIND + GUARD));
+}
+
+/* Starts the archive anew over words that hold anything. */
+static void start(uint64_t rx, uint64_t ry, uint64_t rz)
+{
+    fill(memory, LENGTH(memory));
+    CHECK(ta_start(words, LENT, rx, ry, rz, 8) == TA_DONE);
+    check_guards();
+}
+
+static uint64_t insert(uint64_t number, uint64_t x, uint64_t y, uint64_t z)
+{
+    uint64_t refusal = ta_insert(words, LENT, number, x, y, z);
+
+    check_guards();
+    return refusal;
 }
 
 static uint64_t remove_trial(uint64_t number)
 {
-    return ta_remove(words, LENGTH(words), number);
+    uint64_t refusal = ta_remove(words, LENT, number);
+
+    check_guards();
+    return refusal;
 }
 
 /* The kept contribution of a trial held; an impossible one where it is not. */
@@ -72,21 +107,12 @@ static uint64_t contribution(uint64_t number)
 /* The trials of document 01's card. */
 static void insert_card(int count)
 {
-    static const uint32_t points[4][3] = {{1, 2, 2}, {2, 1, 2}, {2, 2, 1}, {1, 1, 3}};
+    static const uint64_t points[4][3] = {{1, 2, 2}, {2, 1, 2}, {2, 2, 1}, {1, 1, 3}};
     int i;
 
     start(4, 4, 4);
     for (i = 0; i < count; i++) {
         CHECK(insert((uint64_t)i + 1, points[i][0], points[i][1], points[i][2]) == TA_DONE);
-    }
-}
-
-static void check_behind(void)
-{
-    int i;
-
-    for (i = 0; i < BEHIND; i++) {
-        CHECK(words[WORDS + i] == MARK);
     }
 }
 
@@ -107,29 +133,122 @@ static int is_load(ta_load_answer answer, uint64_t refusal, uint64_t line, uint6
     return answer.refusal == refusal && answer.line == line && answer.count == count;
 }
 
-static ta_answer joint(uint64_t first, uint64_t second)
+/* ---- the calls that only read, with all memory compared after each */
+
+static uint64_t lent[LENGTH(memory)];
+
+static void lend(void)
 {
-    return ta_joint(words, LENGTH(words), first, second);
+    memcpy(lent, memory, sizeof memory);
 }
 
-static ta_answer gain(uint32_t x, uint32_t y, uint32_t z)
+static void check_only_read(void)
 {
-    return ta_gain(words, LENGTH(words), x, y, z);
+    CHECK(memcmp(lent, memory, sizeof memory) == 0);
+}
+
+static ta_answer joint(uint64_t first, uint64_t second)
+{
+    ta_answer answer;
+
+    lend();
+    answer = ta_joint(words, LENT, first, second);
+    check_only_read();
+    return answer;
+}
+
+static ta_answer gain(uint64_t x, uint64_t y, uint64_t z)
+{
+    ta_answer answer;
+
+    lend();
+    answer = ta_gain(words, LENT, x, y, z);
+    check_only_read();
+    return answer;
 }
 
 static ta_answer share(void)
 {
-    return ta_share(words, LENGTH(words));
+    ta_answer answer;
+
+    lend();
+    answer = ta_share(words, LENT);
+    check_only_read();
+    return answer;
 }
 
 static ta_answer audit(void)
 {
-    return ta_audit(words, LENGTH(words));
+    ta_answer answer;
+
+    lend();
+    answer = ta_audit(words, LENT);
+    check_only_read();
+    return answer;
 }
 
 static ta_least_answer least(void)
 {
-    return ta_least(words, LENGTH(words));
+    ta_least_answer answer;
+
+    lend();
+    answer = ta_least(words, LENT);
+    check_only_read();
+    return answer;
+}
+
+/* ---- a log and an output between guards */
+
+enum { LOG = 8, OUT = TA_REPORT_BYTES(4) + 2 };
+
+static uint64_t log_memory[GUARD + LOG + GUARD];
+static uint64_t *const log_words = log_memory + GUARD;
+static uint8_t out_memory[GUARD + OUT + GUARD];
+static uint8_t *const out = out_memory + GUARD;
+
+/* Reduces with the first words of a log that holds marks. */
+static ta_answer reduce(uint64_t k, size_t log_len)
+{
+    ta_answer answer;
+
+    fill(log_memory, LENGTH(log_memory));
+    answer = ta_reduce(words, LENT, k, log_words, log_len);
+    check_guards();
+    return answer;
+}
+
+/* Only the first words of the log, or none, are written. */
+static void check_log(size_t written)
+{
+    CHECK(is_filled(log_memory, GUARD));
+    CHECK(is_filled(log_words + written, LOG - written + GUARD));
+}
+
+/* Writes the report of the first words into the first bytes of an output that
+   holds '#'. */
+static ta_answer write_report(size_t len, size_t out_len)
+{
+    ta_answer answer;
+
+    memset(out_memory, '#', sizeof out_memory);
+    lend();
+    answer = ta_report(words, len, out, out_len);
+    check_only_read();
+    return answer;
+}
+
+/* Only the first bytes of the output, or none, are written. */
+static void check_out(size_t written)
+{
+    size_t i;
+    int whole = 1;
+
+    for (i = 0; i < sizeof out_memory; i++) {
+        if ((i < GUARD || i >= GUARD + written) && out_memory[i] != '#') {
+            whole = 0;
+        }
+    }
+    CHECK(whole);
 }
 
 /* ---- the counts to meet, by their numbers */
@@ -184,20 +303,18 @@ static void counts_6_and_7(void)
 
 static void count_8(void)
 {
-    uint64_t log[6] = {MARK, MARK, MARK, MARK, MARK, MARK};
-
     insert_card(4);
     CHECK(TA_LOG_WORDS(words[TA_COUNT], 2) == 4);
     CHECK(is_least(least(), TA_DONE, 4, 1));
-    CHECK(is_answer(ta_reduce(words, LENGTH(words), 2, log, LENGTH(log)), TA_DONE, 2));
-    CHECK(log[0] == 4 && log[1] == 1 && log[2] == 3 && log[3] == 4);
-    CHECK(log[4] == MARK && log[5] == MARK);
+    CHECK(is_answer(reduce(2, 6), TA_DONE, 2));
+    CHECK(log_words[0] == 4 && log_words[1] == 1);
+    CHECK(log_words[2] == 3 && log_words[3] == 4);
+    check_log(4);
     CHECK(words[TA_COUNT] == 2);
     CHECK(words[TA_TOTAL] == 16);
     CHECK(contribution(1) == 4);
     CHECK(contribution(2) == 4);
     CHECK(is_answer(audit(), TA_DONE, 1));
-    check_behind();
 }
 
 static void counts_9_to_11(void)
@@ -239,65 +356,97 @@ static const char report[] =
     "       1       1       2       2                   2\n"
     "       4       1       1       3                   1\n";
 
-static const uint8_t *card_bytes(void)
+enum { CARD = sizeof card - 1, REPORT = sizeof report - 1 };
+
+/* The card between guards. A call is lent the first bytes of it; it is then
+   compared, guards included. */
+static uint8_t card_memory[GUARD + CARD + GUARD];
+static uint8_t *const card_bytes = card_memory + GUARD;
+
+static void lend_card(void)
 {
-    return (const uint8_t *)card;
+    memset(card_memory, '#', sizeof card_memory);
+    memcpy(card_bytes, card, CARD);
+}
+
+static void check_card(void)
+{
+    size_t i;
+
+    CHECK(memcmp(card_bytes, card, CARD) == 0);
+    for (i = 0; i < GUARD; i++) {
+        CHECK(card_memory[i] == '#' && card_bytes[CARD + i] == '#');
+    }
+}
+
+static uint64_t check_first(size_t card_len)
+{
+    uint64_t answer;
+
+    lend_card();
+    answer = ta_card_check(card_bytes, card_len);
+    check_card();
+    return answer;
+}
+
+static ta_load_answer load_first(size_t len, size_t card_len)
+{
+    ta_load_answer answer;
+
+    lend_card();
+    answer = ta_card_load(words, len, card_bytes, card_len);
+    check_card();
+    check_guards();
+    return answer;
 }
 
 static void card_and_report(void)
 {
-    uint64_t loaded[LENGTH(words)];
-    uint8_t out[TA_REPORT_BYTES(4) + 2];
-    const size_t card_len = sizeof card - 1;
-    const size_t report_len = sizeof report - 1;
+    uint64_t inserted[WORDS];
 
-    CHECK(ta_card_check(card_bytes(), card_len) == TA_DONE);
-    memset(loaded, 0xff, sizeof loaded);
-    CHECK(is_load(ta_card_load(loaded, LENGTH(loaded), card_bytes(), card_len), TA_DONE, 0, 4));
     insert_card(4);
-    CHECK(memcmp(loaded, words, WORDS * sizeof words[0]) == 0);
-    CHECK(loaded[WORDS] == UINT64_MAX);
+    memcpy(inserted, words, sizeof inserted);
+    CHECK(check_first(CARD) == TA_DONE);
+    fill(memory, LENGTH(memory));
+    CHECK(is_load(load_first(LENT, CARD), TA_DONE, 0, 4));
+    CHECK(memcmp(inserted, words, sizeof inserted) == 0);
 
-    memset(out, '#', sizeof out);
-    CHECK(report_len == TA_REPORT_BYTES(4));
-    CHECK(is_answer(ta_report(words, LENGTH(words), out, sizeof out), TA_DONE, report_len));
-    CHECK(memcmp(out, report, report_len) == 0);
-    CHECK(out[report_len] == '#' && out[report_len + 1] == '#');
+    CHECK(REPORT == TA_REPORT_BYTES(4));
+    CHECK(is_answer(write_report(LENT, OUT), TA_DONE, REPORT));
+    CHECK(memcmp(out, report, REPORT) == 0);
+    check_out(REPORT);
 }
 
 /* ---- the refusals, by their numbers: zeros for all else, memory as before */
 
-static uint64_t before[LENGTH(words)];
+static uint64_t before[LENGTH(memory)];
 
 static void remember(void)
 {
-    memcpy(before, words, sizeof words);
+    memcpy(before, memory, sizeof memory);
 }
 
 static void check_untouched(void)
 {
-    CHECK(memcmp(before, words, sizeof words) == 0);
+    CHECK(memcmp(before, memory, sizeof memory) == 0);
 }
 
 /* Rows 1 to 3, given by every call that reads an archive. */
 static void check_row(uint64_t row, size_t len)
 {
-    uint64_t log[8];
-    uint8_t out[TA_REPORT_BYTES(4)];
-
-    memset(log, 0x2a, sizeof log);
-    memset(out, '#', sizeof out);
     remember();
+    fill(log_memory, LENGTH(log_memory));
     CHECK(ta_insert(words, len, 9, 0, 0, 0) == row);
     CHECK(ta_remove(words, len, 1) == row);
     CHECK(is_least(ta_least(words, len), row, 0, 0));
-    CHECK(is_answer(ta_reduce(words, len, 0, log, LENGTH(log)), row, 0));
+    CHECK(is_answer(ta_reduce(words, len, 0, log_words, LOG), row, 0));
     CHECK(is_answer(ta_joint(words, len, 1, 2), row, 0));
     CHECK(is_answer(ta_gain(words, len, 0, 0, 0), row, 0));
     CHECK(is_answer(ta_share(words, len), row, 0));
     CHECK(is_answer(ta_audit(words, len), row, 0));
-    CHECK(is_answer(ta_report(words, len, out, sizeof out), row, 0));
-    CHECK(log[0] == 0x2a2a2a2a2a2a2a2au && out[0] == '#');
+    CHECK(is_answer(write_report(len, OUT), row, 0));
+    check_log(0);
+    check_out(0);
     check_untouched();
 }
 
@@ -308,15 +457,15 @@ static void rows_1_to_3(void)
     check_row(TA_SLICE_SHORT, 7);
     check_row(TA_SLICE_SHORT, WORDS - 1);
     words[TA_CAPACITY] = TA_MAX_CAPACITY + 1;
-    check_row(TA_BAD_HEADER, LENGTH(words));
+    check_row(TA_BAD_HEADER, LENT);
     words[TA_CAPACITY] = 8;
     words[TA_TOTAL] = 65;
-    check_row(TA_BAD_HEADER, LENGTH(words));
+    check_row(TA_BAD_HEADER, LENT);
     check_row(TA_BAD_HEADER, 8);
     check_row(TA_SLICE_SHORT, 7);
     words[TA_TOTAL] = 21;
     words[WORDS - 1] = 1;
-    check_row(TA_BAD_RECORDS, LENGTH(words));
+    check_row(TA_BAD_RECORDS, LENT);
     check_row(TA_SLICE_SHORT, WORDS - 1);
 }
 
@@ -325,7 +474,7 @@ static void rows_4_to_10(void)
     insert_card(4);
     remember();
     CHECK(ta_start(words, 0, 4, 4, 4, TA_MAX_CAPACITY + 1) == TA_BAD_START);
-    CHECK(ta_start(words, LENGTH(words), 4, 0, 4, 8) == TA_BAD_START);
+    CHECK(ta_start(words, LENT, 4, 0, 4, 8) == TA_BAD_START);
     CHECK(ta_start(words, WORDS - 1, 4, 4, 4, 8) == TA_SLICE_SHORT);
     CHECK(insert(0, 5, 5, 5) == TA_BAD_NUMBER);
     CHECK(insert(TA_MAX_NUMBER + 1, 0, 0, 0) == TA_BAD_NUMBER);
@@ -341,17 +490,18 @@ static void rows_4_to_10(void)
 
 static void rows_11_to_13(void)
 {
-    uint64_t log[8] = {MARK, MARK, MARK, MARK, MARK, MARK, MARK, MARK};
-
     insert_card(4);
     words[TA_TOTAL] = 20;
     remember();
     CHECK(is_answer(audit(), TA_DONE, 0));
-    CHECK(is_answer(ta_reduce(words, LENGTH(words), 5, log, 0), TA_ABOVE_COUNT, 0));
-    CHECK(is_answer(ta_reduce(words, LENGTH(words), 0, log, 7), TA_LOG_SHORT, 0));
-    CHECK(is_answer(ta_reduce(words, LENGTH(words), 0, log, 8), TA_MISCOUNT, 0));
-    CHECK(is_answer(ta_reduce(words, LENGTH(words), 4, log, 0), TA_MISCOUNT, 0));
-    CHECK(log[0] == MARK && log[7] == MARK);
+    CHECK(is_answer(reduce(5, 0), TA_ABOVE_COUNT, 0));
+    check_log(0);
+    CHECK(is_answer(reduce(0, LOG - 1), TA_LOG_SHORT, 0));
+    check_log(0);
+    CHECK(is_answer(reduce(0, LOG), TA_MISCOUNT, 0));
+    check_log(0);
+    CHECK(is_answer(reduce(4, 0), TA_MISCOUNT, 0));
+    check_log(0);
     check_untouched();
 
     words[TA_TOTAL] = 0;
@@ -366,21 +516,161 @@ static void rows_11_to_13(void)
 
 static void rows_15_and_16(void)
 {
-    uint8_t out[TA_REPORT_BYTES(4)];
-    const size_t card_len = sizeof card - 1;
+    insert_card(4);
+    remember();
+    CHECK(is_answer(write_report(LENT, REPORT - 1), TA_OUTPUT_SHORT, 0));
+    check_out(0);
+    CHECK(is_load(load_first(LENT, 0), TA_CARD_FORM, 1, 0));
+    CHECK(is_load(load_first(LENT, CARD - 1), TA_CARD_FORM, 5, 0));
+    CHECK(is_load(load_first(WORDS - 1, CARD), TA_SLICE_SHORT, 1, 0));
+    CHECK(check_first(CARD - 1) == TA_CARD_FORM * 65536 + 5);
+    CHECK(TA_CARD_REFUSAL(check_first(0)) == TA_CARD_FORM);
+    CHECK(TA_CARD_LINE(check_first(0)) == 1);
+    check_untouched();
+}
+
+/* ---- numbers as C passes them */
+
+/* Numbers that 32 bits, or any fewer than 64, would not tell from small ones,
+   and those that negative ones become: too large on every axis. */
+static void numbers_too_wide(void)
+{
+    static const uint64_t wide[] = {
+        (uint64_t)1 << 32, ((uint64_t)1 << 32) + 1, ((uint64_t)1 << 32) + 4, (uint64_t)1 << 40,
+        ((uint64_t)1 << 48) + 1, (uint64_t)1 << 63, ((uint64_t)1 << 63) + 1, UINT64_MAX,
+        (uint64_t)-1, (uint64_t)-4, UINT32_MAX, (uint64_t)INT64_MAX
+    };
+    size_t axis;
+    size_t i;
 
     insert_card(4);
     remember();
-    memset(out, '#', sizeof out);
-    CHECK(is_answer(ta_report(words, LENGTH(words), out, sizeof out - 1), TA_OUTPUT_SHORT, 0));
-    CHECK(out[0] == '#');
-    CHECK(is_load(ta_card_load(words, LENGTH(words), card_bytes(), 0), TA_CARD_FORM, 1, 0));
-    CHECK(is_load(ta_card_load(words, LENGTH(words), card_bytes(), card_len - 1), TA_CARD_FORM, 5, 0));
-    CHECK(is_load(ta_card_load(words, WORDS - 1, card_bytes(), card_len), TA_SLICE_SHORT, 1, 0));
-    CHECK(ta_card_check(card_bytes(), card_len - 1) == TA_CARD_FORM * 65536 + 5);
-    CHECK(TA_CARD_REFUSAL(ta_card_check(card_bytes(), 0)) == TA_CARD_FORM);
-    CHECK(TA_CARD_LINE(ta_card_check(card_bytes(), 0)) == 1);
+    for (axis = 0; axis < 3; axis++) {
+        for (i = 0; i < LENGTH(wide); i++) {
+            uint64_t at[3] = {1, 1, 1};
+
+            at[axis] = wide[i];
+            CHECK(ta_start(words, LENT, at[0], at[1], at[2], 8) == TA_BAD_START);
+            CHECK(insert(0, at[0], at[1], at[2]) == TA_BAD_NUMBER);
+            CHECK(insert(1, at[0], at[1], at[2]) == TA_ABOVE_REFERENCE);
+            CHECK(insert(7, at[0], at[1], at[2]) == TA_ABOVE_REFERENCE);
+            CHECK(is_answer(gain(at[0], at[1], at[2]), TA_ABOVE_REFERENCE, 0));
+            check_untouched();
+        }
+    }
+}
+
+/* The header's words on negative numbers and on fractions. */
+static void numbers_converted(void)
+{
+    int negative = -1;
+    double fraction = 2.9;
+    double near_zero = -0.9;
+
+    insert_card(4);
+    remember();
+    CHECK(ta_start(words, LENT, negative, 4, 4, 8) == TA_BAD_START);
+    CHECK(ta_start(words, LENT, 4, 4, 4, negative) == TA_BAD_START);
+    CHECK(ta_insert(words, LENT, negative, 1, 1, 1) == TA_BAD_NUMBER);
+    CHECK(ta_insert(words, LENT, 7, negative, 1, 1) == TA_ABOVE_REFERENCE);
+    CHECK(ta_insert(words, LENT, 7, 1, negative, 1) == TA_ABOVE_REFERENCE);
+    CHECK(ta_insert(words, LENT, 7, 1, 1, negative) == TA_ABOVE_REFERENCE);
+    CHECK(is_answer(ta_gain(words, LENT, 1, negative, 1), TA_ABOVE_REFERENCE, 0));
+    CHECK(ta_remove(words, LENT, negative) == TA_NOT_HELD);
+    CHECK(is_answer(ta_joint(words, LENT, 1, negative), TA_NOT_HELD, 0));
+    CHECK(is_answer(ta_reduce(words, LENT, negative, log_words, LOG), TA_ABOVE_COUNT, 0));
     check_untouched();
+
+    CHECK(ta_insert(words, LENT, 7, fraction, near_zero, 3.0) == TA_DONE);
+    CHECK(words[TA_RECORDS + 3 * TA_RECORD_WORDS] == 7);
+    CHECK(words[TA_RECORDS + 3 * TA_RECORD_WORDS + 1] == 2);
+    CHECK(words[TA_RECORDS + 3 * TA_RECORD_WORDS + 2] == 0);
+    CHECK(words[TA_RECORDS + 3 * TA_RECORD_WORDS + 3] == 3);
+}
+
+/* ---- what the header defines */
+
+/* Stops the compiler where the condition does not hold. */
+#define HOLDS(name, condition) typedef char name[(condition) ? 1 : -1]
+
+HOLDS(answer_is_two_words, sizeof(ta_answer) == 16);
+HOLDS(answer_refusal_first, offsetof(ta_answer, refusal) == 0);
+HOLDS(answer_value_second, offsetof(ta_answer, value) == 8);
+HOLDS(least_is_three_words, sizeof(ta_least_answer) == 24);
+HOLDS(least_refusal_first, offsetof(ta_least_answer, refusal) == 0);
+HOLDS(least_number_second, offsetof(ta_least_answer, number) == 8);
+HOLDS(least_contribution_third, offsetof(ta_least_answer, contribution) == 16);
+HOLDS(load_is_three_words, sizeof(ta_load_answer) == 24);
+HOLDS(load_refusal_first, offsetof(ta_load_answer, refusal) == 0);
+HOLDS(load_line_second, offsetof(ta_load_answer, line) == 8);
+HOLDS(load_count_third, offsetof(ta_load_answer, count) == 16);
+/* The lengths are constants. */
+HOLDS(words_of_the_largest, TA_WORDS(TA_MAX_CAPACITY) == 2568);
+HOLDS(log_of_the_largest, TA_LOG_WORDS(TA_MAX_CAPACITY, 0) == 1024);
+HOLDS(report_of_the_largest, TA_REPORT_BYTES(TA_MAX_CAPACITY) == 27189);
+
+/* Each field holds what its name says: values that differ within a struct. */
+static void fields(void)
+{
+    ta_answer answer;
+    ta_least_answer least_found;
+    ta_load_answer loaded;
+
+    insert_card(4);
+    remove_trial(3);
+    answer = joint(1, 2);
+    CHECK(answer.refusal == 0);
+    CHECK(answer.value == 4);
+    answer = joint(1, 3);
+    CHECK(answer.refusal == 9);
+    CHECK(answer.value == 0);
+
+    insert_card(4);
+    least_found = least();
+    CHECK(least_found.refusal == 0);
+    CHECK(least_found.number == 4);
+    CHECK(least_found.contribution == 1);
+    start(4, 4, 4);
+    least_found = least();
+    CHECK(least_found.refusal == 14);
+    CHECK(least_found.number == 0);
+    CHECK(least_found.contribution == 0);
+
+    loaded = load_first(LENT, CARD);
+    CHECK(loaded.refusal == 0);
+    CHECK(loaded.line == 0);
+    CHECK(loaded.count == 4);
+    loaded = load_first(LENT, CARD - 40);
+    CHECK(loaded.refusal == 15);
+    CHECK(loaded.line == 4);
+    CHECK(loaded.count == 0);
+}
+
+/* No length of a log wraps, whatever the arguments' types. */
+static void log_lengths(void)
+{
+    const uint64_t largest = UINT64_MAX;
+    const uint64_t count = 4;
+    const int k = 3;
+    const int negative = -1;
+
+    CHECK(TA_LOG_WORDS(4, 0) == 8);
+    CHECK(TA_LOG_WORDS(count, k) == 2);
+    CHECK(TA_LOG_WORDS(count, 1 + 1) == 4);
+    CHECK(TA_LOG_WORDS(count + 1, count) == 2);
+    CHECK(TA_LOG_WORDS(count, count) == 0);
+    CHECK(TA_LOG_WORDS(0, 0) == 0);
+    CHECK(TA_LOG_WORDS(count, 5) == 0);
+    CHECK(TA_LOG_WORDS(0, count) == 0);
+    CHECK(TA_LOG_WORDS(k, count) == 0);
+    CHECK(TA_LOG_WORDS(count, negative) == 0);
+    CHECK(TA_LOG_WORDS(count, largest) == 0);
+    CHECK(TA_LOG_WORDS(largest, largest) == 0);
+    CHECK(TA_LOG_WORDS(largest, largest - 4) == 8);
+    CHECK(TA_LOG_WORDS(largest / 2, 0) == SIZE_MAX - 1);
+    CHECK(TA_LOG_WORDS(largest / 2 + 1, 0) == SIZE_MAX);
+    CHECK(TA_LOG_WORDS(largest, 0) == SIZE_MAX);
+    CHECK(sizeof TA_LOG_WORDS(count, k) == sizeof(size_t));
 }
 
 int main(void)
@@ -395,6 +685,10 @@ int main(void)
     rows_4_to_10();
     rows_11_to_13();
     rows_15_and_16();
+    numbers_too_wide();
+    numbers_converted();
+    fields();
+    log_lengths();
     printf("%d passed, %d failed\n", passed, failed);
     return failed == 0 ? 0 : 1;
 }

@@ -1,5 +1,6 @@
 #!/bin/sh
-# Compiles the C programs against the library, plain and with sanitizers, runs them and compares.
+# Compiles the C programs and the header's example against the library, plain and with sanitizers,
+# runs them and compares.
 #
 #   bench/test.sh LIB      LIB: path of libtrial_archive.a
 #
@@ -71,6 +72,28 @@ counted() {
     check "$1 ends well: $last" [ "$found" -eq 0 ]
 }
 
+# indented LINE: what stands further in behind this line of the header, as far as it goes on.
+indented() {
+    awk -v line="$1" '
+        on && !/^ \*(     .*)?$/ { exit }
+        on { print substr($0, 8) }
+        $0 == line { on = 1 }' "$here/../include/trial_archive.h"
+}
+
+# prints EXPECTED PROGRAM: the program ends well and writes the file.
+prints() {
+    "$work/$2" >"$work/out" && diff "$1" "$work/out"
+}
+
+# example: the program in the header's comment, compiled as it stands there.
+example() {
+    indented ' *   A program that looks at every refusal:' >"$work/example.c"
+    indented ' *   It prints:' | grep . >"$work/printed"
+    check "the header's example compiles" c99 -O2 "$work/example.c" "$lib" -o "$work/example"
+    check "the header's example in C++" cxx -fsyntax-only "$work/example.c"
+    check "the header's example prints what the header says" prints "$work/printed" example
+}
+
 # cards_of FILE: the cards that its lines are about; no name has a space.
 cards_of() {
     cut -d: -f1 "$1"
@@ -116,6 +139,7 @@ programs() {
 echo '#include "trial_archive.h"' >"$work/header.c"
 check "the header in C99" c99 -fsyntax-only "$work/header.c"
 check "the header in C++" cxx -fsyntax-only "$work/header.c"
+example
 programs plain -O2
 programs sanitized -O1 -g -fsanitize=address,undefined -fno-sanitize-recover=all
 check "stack compiles" c99 -O2 -pthread "$here/stack.c" "$lib" -o "$work/stack"

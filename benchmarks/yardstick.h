@@ -6,8 +6,8 @@
 #include "trial_archive.h"
 
 extern "C" {
-uint64_t rs_insert(uint64_t *words, size_t len, uint64_t number, uint32_t x, uint32_t y,
-                   uint32_t z);
+uint64_t rs_insert(uint64_t *words, size_t len, uint64_t number, uint64_t x, uint64_t y,
+                   uint64_t z);
 uint64_t rs_remove(uint64_t *words, size_t len, uint64_t number);
 ta_least_answer rs_least(const uint64_t *words, size_t len);
 ta_answer rs_reduce(uint64_t *words, size_t len, uint64_t k, uint64_t *log, size_t log_len);

@@ -36,6 +36,19 @@
  *   zero, save a card's line, and all lent memory is as before the call.
  *   Bytes and words behind those that a call is said to write stay unchanged.
  *
+ * NUMBERS AS C PASSES THEM
+ *   Coordinates, reference numbers, the capacity, trial numbers and k are
+ *   uint64_t, and a call judges all 64 bits. C converts an argument of another
+ *   type before the call, and the number that arrives is the one judged:
+ *     - A negative integer arrives as 2^64 less its size and is refused like
+ *       any other that is too large: by row 4 at ta_start, 5 as a new trial's
+ *       number, 6 as a coordinate, 9 as the number of a trial held, 11 as k.
+ *     - A double loses its fraction: 2.9 arrives as 2, and -0.9 as 0. One that
+ *       is -1 or less, 2^64 or more, or not a number is undefined behaviour in
+ *       C, before the call; the library cannot see it.
+ *   So round doubles and look at their range first. gcc's -Wconversion and
+ *   -Wsign-conversion name the places where C converts.
+ *
  * LENT MEMORY
  *   - The slices lent to one call share no memory.
  *   - A pointer is never null and is aligned for its type, also where the
@@ -52,6 +65,57 @@
  *   output. Calls that share no lent memory may run at the same time, and so
  *   may calls that only read the same archive.
  *   A call needs a few tens of KiB of stack, at most TA_STACK_BYTES; see docs.
+ *
+ * EXAMPLE
+ *   A program that looks at every refusal:
+ *
+ *     #include "trial_archive.h"
+ *     #include <inttypes.h>
+ *     #include <stdio.h>
+ *
+ *     enum { CAPACITY = 8, WORDS = TA_WORDS(CAPACITY) };
+ *     enum { KEPT = 2, LOG_WORDS = TA_LOG_WORDS(CAPACITY, KEPT) };
+ *
+ *     static int refused(const char *call, uint64_t row)
+ *     {
+ *         if (row != TA_DONE)
+ *             printf("%s: refused by row %" PRIu64 "\n", call, row);
+ *         return row != TA_DONE;
+ *     }
+ *
+ *     int main(void)
+ *     {
+ *         static const uint64_t scores[4][3] =
+ *             {{1, 2, 2}, {2, 1, 2}, {2, 5, 1}, {1, 1, 3}};
+ *         uint64_t words[WORDS], log[LOG_WORDS], i;
+ *         ta_answer drops;
+ *
+ *         if (refused("start", ta_start(words, WORDS, 4, 4, 4, CAPACITY)))
+ *             return 1;
+ *         for (i = 0; i < 4; i++) {
+ *             const uint64_t *at = scores[i];
+ *
+ *             if (refused("insert", ta_insert(words, WORDS, i + 1,
+ *                                             at[0], at[1], at[2])))
+ *                 printf("trial %" PRIu64 " is left out\n", i + 1);
+ *         }
+ *         drops = ta_reduce(words, WORDS, KEPT, log, LOG_WORDS);
+ *         if (refused("reduce", drops.refusal))
+ *             return 1;
+ *         for (i = 0; i < drops.value; i++)
+ *             printf("trial %" PRIu64 " is dropped: %" PRIu64 " cells\n",
+ *                    log[2 * i], log[2 * i + 1]);
+ *         printf("%" PRIu64 " trials: %" PRIu64 " cells\n",
+ *                words[TA_COUNT], words[TA_TOTAL]);
+ *         return 0;
+ *     }
+ *
+ *   It prints:
+ *
+ *     insert: refused by row 6
+ *     trial 3 is left out
+ *     trial 4 is dropped: 1 cells
+ *     2 trials: 16 cells
  */
 #ifndef TRIAL_ARCHIVE_H
 #define TRIAL_ARCHIVE_H
@@ -71,10 +135,24 @@ extern "C" {
 /* The stack that any one call stays below, in bytes. bench/stack.c measures it. */
 #define TA_STACK_BYTES 65536
 
-/* Lengths: words of an archive, words of a reduction's log, bytes of a report. */
+/*
+ * Lengths: words of an archive with a capacity up to TA_MAX_CAPACITY, words of
+ * the log of a reduction from count trials to k, bytes of a report on so many
+ * trials. A k above the count needs no log, since ta_reduce refuses it; nor
+ * does a negative k. TA_LOG_WORDS does not wrap: it is 0 for these, and
+ * (size_t)-1 where a size_t cannot hold the length. It may evaluate its
+ * arguments more than once.
+ */
 #define TA_WORDS(capacity) (8 + 5 * (size_t)(capacity))
-#define TA_LOG_WORDS(count, k) (2 * ((size_t)(count) - (size_t)(k)))
+#define TA_LOG_WORDS(count, k) \
+    TA_LOG_WORDS_OF((uint64_t)(count), (uint64_t)(count) - (uint64_t)(k))
 #define TA_REPORT_BYTES(count) (53 * ((size_t)(count) + 1))
+
+/* TA_LOG_WORDS by the drops, which are more than the count where k is: the
+   difference has wrapped. */
+#define TA_LOG_WORDS_OF(count, drops) \
+    ((drops) > (count) ? (size_t)0 \
+     : (drops) > (size_t)-1 / 2 ? (size_t)-1 : 2 * (size_t)(drops))
 
 /* Where the words of an archive stand. */
 #define TA_COUNT 0
@@ -157,7 +235,7 @@ typedef struct ta_load_answer {
  * Refusals, in this order: 4, then 1.
  */
 uint64_t ta_start(uint64_t *words, size_t len,
-                  uint32_t rx, uint32_t ry, uint32_t rz, uint64_t capacity);
+                  uint64_t rx, uint64_t ry, uint64_t rz, uint64_t capacity);
 
 /*
  * Inserts a trial. Its contribution is its counted gain; the total grows by
@@ -166,7 +244,7 @@ uint64_t ta_start(uint64_t *words, size_t len,
  * Refusals: 1 to 3, 5, 6, 7, 8, 13.
  */
 uint64_t ta_insert(uint64_t *words, size_t len, uint64_t number,
-                   uint32_t x, uint32_t y, uint32_t z);
+                   uint64_t x, uint64_t y, uint64_t z);
 
 /*
  * Removes a trial. The total falls by its counted contribution, and every
@@ -206,7 +284,7 @@ ta_answer ta_joint(const uint64_t *words, size_t len,
  * Refusals: 1 to 3, 6.
  */
 ta_answer ta_gain(const uint64_t *words, size_t len,
-                  uint32_t x, uint32_t y, uint32_t z);
+                  uint64_t x, uint64_t y, uint64_t z);
 
 /*
  * The kept total in millionths of the box, rounded down.

@@ -27,6 +27,13 @@
 //! [`Archive`] owns its memory. The functions of [`words`] work on memory that the caller lends,
 //! and [`sys`] is the bare C interface.
 //!
+//! # Building and testing
+//!
+//! The library itself is `libtrial_archive.a`. It is sought in `target/staticlib` of the
+//! repository, where `rt staticlib trial_archive` writes it, or in the folder that the variable
+//! `TRIAL_ARCHIVE_LIB_DIR` names. Run the tests by `cargo test --release`: they make hundreds of
+//! thousands of calls, which take seconds then and a minute or two in a debug build.
+//!
 //! # The archive's words
 //!
 //! Word 0: count of trials. 1: capacity, 1 to 512. 2, 3, 4: the reference, each number 1 to

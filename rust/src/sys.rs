@@ -31,9 +31,9 @@ pub struct LoadAnswer {
 }
 
 extern "C" {
-    pub fn ta_start(words: *mut u64, len: usize, rx: u32, ry: u32, rz: u32, capacity: u64) -> u64;
+    pub fn ta_start(words: *mut u64, len: usize, rx: u64, ry: u64, rz: u64, capacity: u64) -> u64;
 
-    pub fn ta_insert(words: *mut u64, len: usize, number: u64, x: u32, y: u32, z: u32) -> u64;
+    pub fn ta_insert(words: *mut u64, len: usize, number: u64, x: u64, y: u64, z: u64) -> u64;
 
     pub fn ta_remove(words: *mut u64, len: usize, number: u64) -> u64;
 
@@ -43,7 +43,7 @@ extern "C" {
 
     pub fn ta_joint(words: *const u64, len: usize, first: u64, second: u64) -> Answer;
 
-    pub fn ta_gain(words: *const u64, len: usize, x: u32, y: u32, z: u32) -> Answer;
+    pub fn ta_gain(words: *const u64, len: usize, x: u64, y: u64, z: u64) -> Answer;
 
     pub fn ta_share(words: *const u64, len: usize) -> Answer;
 

@@ -24,7 +24,7 @@ pub const fn report_needed(count: usize) -> usize {
 
 /// Writes an empty archive; what the words held before does not matter.
 pub fn start(words: &mut [u64], reference: [u32; 3], capacity: u64) -> Result<(), Refusal> {
-    let [rx, ry, rz] = reference;
+    let [rx, ry, rz] = reference.map(u64::from);
     // SAFETY: pointer and length are those of one slice borrowed for the call.
     let number = unsafe { sys::ta_start(words.as_mut_ptr(), words.len(), rx, ry, rz, capacity) };
     Refusal::check(number)
@@ -32,7 +32,7 @@ pub fn start(words: &mut [u64], reference: [u32; 3], capacity: u64) -> Result<()
 
 /// Inserts a trial.
 pub fn insert(words: &mut [u64], number: u64, point: [u32; 3]) -> Result<(), Refusal> {
-    let [x, y, z] = point;
+    let [x, y, z] = point.map(u64::from);
     // SAFETY: pointer and length are those of one slice borrowed for the call.
     Refusal::check(unsafe { sys::ta_insert(words.as_mut_ptr(), words.len(), number, x, y, z) })
 }
@@ -69,7 +69,7 @@ pub fn joint(words: &[u64], first: u64, second: u64) -> Result<u64, Refusal> {
 
 /// The cells that the point dominates and no trial does.
 pub fn gain(words: &[u64], point: [u32; 3]) -> Result<u64, Refusal> {
-    let [x, y, z] = point;
+    let [x, y, z] = point.map(u64::from);
     // SAFETY: pointer and length are those of one slice borrowed for the call.
     value(unsafe { sys::ta_gain(words.as_ptr(), words.len(), x, y, z) })
 }

@@ -221,6 +221,15 @@ fn row_3_unused_words() {
     }
 }
 
+/// Numbers of 32 bits and more: those that a cut to 32 bits would make 0, 1 or this one, and those
+/// that negative numbers of C become.
+fn wide(narrow: u64) -> impl Iterator<Item = u64> {
+    let cut = move |high: u64| [high, high + 1, high + narrow];
+    let negative = [1, 2, 4, 1 << 31, 1 << 32, 1 << 40].map(|size: u64| size.wrapping_neg());
+    let more = [1 << 31, u64::from(u32::MAX), narrow << 32 | narrow];
+    (32..64).map(|bit| 1 << bit).flat_map(cut).chain(negative).chain(more)
+}
+
 #[test]
 fn rows_of_start() {
     let anything = |length: usize| vec![0x1234_5678_9abc_def0; length];
@@ -239,8 +248,9 @@ fn rows_of_start() {
             expect(&Call::Start { reference: [4, 4, 4], capacity }, &anything(length), 4);
         }
     }
+    let allowed = [(0, 4), (1, 0), (MAX_REFERENCE, 0), (MAX_REFERENCE + 1, 4)];
     for axis in 0..3 {
-        for (number, row) in [(0, 4), (1, 0), (1_048_576, 0), (1_048_577, 4), (u32::MAX, 4)] {
+        for (number, row) in allowed.into_iter().chain(wide(4).map(|number| (number, 4))) {
             let mut reference = [4; 3];
             reference[axis] = number;
             let start = Call::Start { reference, capacity: 1 };
@@ -248,6 +258,20 @@ fn rows_of_start() {
             expect(&start, &anything(12), if row == 0 { 1 } else { row });
         }
     }
+    for number in wide(4) {
+        expect(&Call::Start { reference: [number; 3], capacity: 1 }, &anything(13), 4);
+    }
+}
+
+/// Insertions that rows 5 and 6 turn down, in this order, and the gain that row 6 does.
+fn above_the_reference(point: Point, words: &[u64]) {
+    for number in [0, MAX_NUMBER + 1, u64::MAX] {
+        expect(&Call::Insert { number, point }, words, 5);
+    }
+    for number in [1, 5] {
+        expect(&Call::Insert { number, point }, words, 6);
+    }
+    expect(&Call::Gain { point }, words, 6);
 }
 
 #[test]
@@ -260,12 +284,26 @@ fn rows_of_insert_and_gain() {
         expect(&insert(number, [4, 4, 4]), &room, 5);
     }
     for axis in 0..3 {
-        for coordinate in [5, 1_048_576, 1_048_577, u32::MAX] {
-            let mut point = [4; 3];
+        for coordinate in [5, MAX_REFERENCE, MAX_REFERENCE + 1].into_iter().chain(wide(4)) {
+            for others in [0, 4] {
+                let mut point = [others; 3];
+                point[axis] = coordinate;
+                above_the_reference(point, &full);
+                above_the_reference(point, &room);
+            }
+        }
+    }
+    for coordinate in wide(4) {
+        above_the_reference([coordinate; 3], &full);
+        above_the_reference([coordinate; 3], &room);
+    }
+    // Under the largest reference.
+    let largest = words_of([MAX_REFERENCE; 3], 2, &[(1, [7, 8, 9])]);
+    for axis in 0..3 {
+        for coordinate in [MAX_REFERENCE + 1].into_iter().chain(wide(MAX_REFERENCE)) {
+            let mut point = [0; 3];
             point[axis] = coordinate;
-            expect(&insert(1, point), &full, 6);
-            expect(&insert(5, point), &room, 6);
-            expect(&Call::Gain { point }, &full, 6);
+            above_the_reference(point, &largest);
         }
     }
     for number in 1..=4 {

@@ -39,6 +39,15 @@ fn refused(card: &[u8], refusal: u64, line: u64) {
     assert_eq!(both(card), refusal * 65_536 + line, "{}", String::from_utf8_lossy(card));
 }
 
+/// The card is accepted, and loading leaves these words and, behind them, what was there.
+fn accepted(card: &[u8], words: &[u64]) {
+    assert_eq!(both(card), 0, "{}", String::from_utf8_lossy(card));
+    let before = anything(8 + 5 * 512 + 3);
+    let outcome = expect(&Call::Load { card: card.to_vec() }, &before, 0);
+    assert_eq!(outcome.answer, [0, 0, words[0]]);
+    assert_eq!(outcome.words, [words, &before[words.len()..]].concat());
+}
+
 #[test]
 fn every_byte_changed() {
     let cards = [
@@ -91,9 +100,39 @@ fn a_byte_more_or_less() {
     }
 }
 
+/// The words of an empty archive, from line 1 of its card.
+fn empty([capacity, rx, ry, rz]: [u64; 4]) -> Vec<u64> {
+    let mut words = vec![0, capacity, rx, ry, rz];
+    words.resize(8 + 5 * capacity as usize, 0);
+    words
+}
+
+/// The words of an archive with one trial, from the two lines of its card.
+fn single(shape: [u64; 4], [number, x, y, z]: [u64; 4]) -> Vec<u64> {
+    let mut words = empty(shape);
+    let cells = (shape[1] - x) * (shape[2] - y) * (shape[3] - z);
+    (words[0], words[5]) = (1, cells);
+    words[8..13].copy_from_slice(&[number, x, y, z, cells]);
+    words
+}
+
 #[test]
 fn forms_of_a_field() {
-    let good: [&[u8; 8]; 5] = [b"       4", b"      10", b"     512", b"    1000", b"       1"];
+    let good: [(&[u8; 8], u64); 13] = [
+        (b"       0", 0),
+        (b"       1", 1),
+        (b"       4", 4),
+        (b"       5", 5),
+        (b"      10", 10),
+        (b"     512", 512),
+        (b"     513", 513),
+        (b"    1000", 1_000),
+        (b" 1048576", MAX_REFERENCE),
+        (b" 1048577", MAX_REFERENCE + 1),
+        (b" 9999999", MAX_NUMBER),
+        (b"10000000", MAX_NUMBER + 1),
+        (b"99999999", 99_999_999),
+    ];
     let bad: [&[u8; 8]; 14] = [
         b"        ",
         b"4       ",
@@ -110,21 +149,34 @@ fn forms_of_a_field() {
         b"     4.0",
         b"\0\0\0\0\0\0\x004",
     ];
+    let (shape, trial) = ([4; 4], [1; 4]);
     for place in 0..4 {
-        for (field, form) in good.iter().map(|f| (f, true)).chain(bad.iter().map(|f| (f, false))) {
-            let mut first = card(&[[4, 4, 4, 4]]);
-            first[8 * place..8 * place + 8].copy_from_slice(*field);
-            let checked = both(&first);
-            if !form {
-                assert_eq!(checked, 15 * 65_536 + 1);
+        let cards = |field: &[u8; 8]| {
+            let (mut first, mut second) = (card(&[shape]), card(&[shape, trial]));
+            first[8 * place..8 * place + 8].copy_from_slice(field);
+            second[33 + 8 * place..41 + 8 * place].copy_from_slice(field);
+            (first, second)
+        };
+        for (field, value) in good {
+            let (first, second) = cards(field);
+            let (mut shape_read, mut trial_read) = (shape, trial);
+            (shape_read[place], trial_read[place]) = (value, value);
+            let most = if place == 0 { 512 } else { MAX_REFERENCE };
+            if (1..=most).contains(&value) {
+                accepted(&first, &empty(shape_read));
             } else {
-                assert!(checked == 0 || checked == 4 * 65_536 + 1);
+                refused(&first, 4, 1);
             }
-            let mut second = card(&[[4, 4, 4, 4], [1, 1, 1, 1]]);
-            second[33 + 8 * place..41 + 8 * place].copy_from_slice(*field);
-            if !form {
-                refused(&second, 15, 2);
+            match place {
+                0 if value == 0 || value > MAX_NUMBER => refused(&second, 5, 2),
+                1..=3 if value > 4 => refused(&second, 6, 2),
+                _ => accepted(&second, &single(shape, trial_read)),
             }
+        }
+        for field in bad {
+            let (first, second) = cards(field);
+            refused(&first, 15, 1);
+            refused(&second, 15, 2);
         }
     }
 }

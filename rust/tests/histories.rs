@@ -1,10 +1,11 @@
 //! Long lists of insertions, removals and reductions from a start, refused ones and parts of the
 //! words included, against the trial book of document 01.
 
+use crate::lend::{self, narrow};
 use crate::reference::book::Book;
 use crate::reference::{Point, MAX_NUMBER, MAX_REFERENCE};
 use crate::rng::{scenes, Rng};
-use crate::scenes::{part, Shape, Size};
+use crate::scenes::{part, wide, Shape, Size};
 use trial_archive::{words, Refusal};
 
 struct History {
@@ -22,7 +23,7 @@ impl History {
         let needed = 8 + 5 * shape.capacity as usize;
         let mut words: Vec<u64> = (0..needed + rng.index(9)).map(|_| rng.next()).collect();
         let behind = words[needed..].to_vec();
-        let reference = shape.reference.map(|r| r as u32);
+        let reference = narrow(shape.reference).expect("a reference allowed");
         assert_eq!(words::start(&mut words, reference, shape.capacity), Ok(()));
         let book = Book::start(shape.reference, shape.capacity);
         History { shape, words, needed, behind, book }
@@ -75,13 +76,14 @@ impl History {
         let mut point = self.shape.point(rng, &self.held());
         if rng.chance(5) {
             let axis = rng.index(3);
-            point[axis] = self.shape.reference[axis] + rng.within(1..=2);
+            let above = self.shape.reference[axis] + rng.within(1..=2);
+            point[axis] = if rng.chance(50) { above } else { wide(rng, point[axis]) };
         }
         let lent = self.lent(rng);
         let before = self.some_others(rng, number);
-        let answer = words::insert(&mut self.words[..lent], number, point.map(|c| c as u32));
-        assert_eq!(row(answer), self.book.insert(lent, number, point), "insert {number} {point:?}");
-        if answer.is_ok() {
+        let answer = lend::insert(&mut self.words[..lent], number, point);
+        assert_eq!(answer, self.book.insert(lent, number, point), "insert {number} {point:?}");
+        if answer == 0 {
             for (other, was) in before {
                 let fell = was - self.contribution(other);
                 assert_eq!(fell, self.joint(number, other), "{other} after {number} went in");
@@ -199,12 +201,12 @@ fn full_without_ties(name: &str, point: impl Fn(u64) -> Point) {
     let mut words = vec![u64::MAX; 8 + 5 * 512];
     let lent = words.len();
     let mut book = Book::start(reference, 512);
-    assert_eq!(words::start(&mut words, reference.map(|r| r as u32), 512), Ok(()));
+    assert_eq!(words::start(&mut words, [MAX_REFERENCE as u32; 3], 512), Ok(()));
     for i in 0..512 {
         // 37 is prime to 512, so every trial comes once, in a mixed order.
         let trial = i * 37 % 512;
         let (number, point) = (1 + trial * 19_531, point(trial));
-        assert_eq!(words::insert(&mut words, number, point.map(|c| c as u32)), Ok(()));
+        assert_eq!(lend::insert(&mut words, number, point), 0);
         assert_eq!(book.insert(lent, number, point), 0);
     }
     assert_eq!(words, book.fresh(), "{name}, full");

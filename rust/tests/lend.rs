@@ -1,19 +1,21 @@
 //! One call, made three times on equal memory: by the reference, by the bare C interface on
-//! fenced memory, and by the safe functions. Answers and all lent memory must agree.
+//! fenced memory, and by the safe functions. Answers and all lent memory must agree, that which
+//! is only read included. The safe functions take coordinates of 32 bits; a call with wider ones
+//! is made two ways.
 
-use crate::reference::{calls, cards};
+use crate::reference::{calls, cards, Point};
 use std::collections::BTreeMap;
 use trial_archive::{check_card, sys, words, CardRefusal, Refusal};
 
 #[derive(Clone, Debug)]
 pub enum Call {
-    Start { reference: [u32; 3], capacity: u64 },
-    Insert { number: u64, point: [u32; 3] },
+    Start { reference: Point, capacity: u64 },
+    Insert { number: u64, point: Point },
     Remove { number: u64 },
     Least,
     Reduce { k: u64, log: Vec<u64> },
     Joint { first: u64, second: u64 },
-    Gain { point: [u32; 3] },
+    Gain { point: Point },
     Share,
     Audit,
     Check { card: Vec<u8> },
@@ -38,6 +40,38 @@ impl Call {
             Call::Report { .. } => "report",
         }
     }
+
+    /// The coordinates or the reference that the call is given.
+    fn point(&self) -> Option<Point> {
+        match self {
+            Call::Start { reference: point, .. }
+            | Call::Insert { point, .. }
+            | Call::Gain { point } => Some(*point),
+            _ => None,
+        }
+    }
+
+    /// Whether one of its coordinates has more than 32 bits.
+    fn is_wide(&self) -> bool {
+        self.point().is_some_and(|point| narrow(point).is_none())
+    }
+}
+
+/// The point in 32 bits, as far as it fits.
+pub fn narrow(point: Point) -> Option<[u32; 3]> {
+    let [x, y, z] = point.map(|c| u32::try_from(c).ok());
+    Some([x?, y?, z?])
+}
+
+/// Inserts a trial by the safe function, or by the C interface where a coordinate is wide, and
+/// answers the refusal number.
+pub fn insert(words: &mut [u64], number: u64, point: Point) -> u64 {
+    let [x, y, z] = point;
+    match narrow(point) {
+        Some(point) => words::insert(words, number, point).err().map_or(0, Refusal::number),
+        // SAFETY: pointer and length are those of one slice borrowed for the call.
+        None => unsafe { sys::ta_insert(words.as_mut_ptr(), words.len(), number, x, y, z) },
+    }
 }
 
 /// The answer as the C struct's fields, the refusal first, and what lent memory holds.
@@ -47,6 +81,7 @@ pub struct Outcome {
     pub words: Vec<u64>,
     pub log: Vec<u64>,
     pub out: Vec<u8>,
+    pub card: Vec<u8>,
 }
 
 impl Outcome {
@@ -62,7 +97,7 @@ type Way = fn(&Call, &[u64]) -> Outcome;
 pub fn compare(call: &Call, lent: &[u64]) -> Outcome {
     let expected = by_reference(call, lent);
     let ways: [(&str, Way); 2] = [("C interface", by_c), ("safe functions", by_safe)];
-    for (way, run) in ways {
+    for (way, run) in &ways[..if call.is_wide() { 1 } else { 2 }] {
         let found = run(call, lent);
         assert!(
             found == expected,
@@ -79,9 +114,12 @@ pub fn expect(call: &Call, lent: &[u64], refusal: u64) -> Outcome {
     outcome
 }
 
-/// How often each call met each refusal.
+/// How often each call met each refusal, and how often it was given a wide coordinate.
 #[derive(Default)]
-pub struct Tally(BTreeMap<(&'static str, u64), u64>);
+pub struct Tally {
+    met: BTreeMap<(&'static str, u64), u64>,
+    wide: BTreeMap<&'static str, u64>,
+}
 
 impl Tally {
     pub fn compare(&mut self, call: &Call, lent: &[u64]) -> Outcome {
@@ -90,32 +128,44 @@ impl Tally {
             Call::Check { .. } => outcome.answer[0] / 65_536,
             _ => outcome.refusal(),
         };
-        *self.0.entry((call.name(), refusal)).or_default() += 1;
+        *self.met.entry((call.name(), refusal)).or_default() += 1;
+        if call.is_wide() {
+            *self.wide.entry(call.name()).or_default() += 1;
+        }
         outcome
     }
 
     /// Every one of these rows of the call has been met often, and no other.
     pub fn covers(&self, call: &'static str, rows: &[u64]) {
-        let of_call = self.0.iter().filter(|((name, _), _)| *name == call);
+        let of_call = self.met.iter().filter(|((name, _), _)| *name == call);
         let met: Vec<u64> = of_call.clone().map(|((_, row), _)| *row).collect();
         assert_eq!(met, rows, "rows that {call} met");
         for ((_, row), times) in of_call {
             assert!(*times >= 50, "{call} met row {row} only {times} times");
         }
     }
+
+    /// The call was often given a coordinate of more than 32 bits.
+    pub fn covers_wide(&self, call: &'static str) {
+        let times = self.wide.get(call).copied().unwrap_or(0);
+        assert!(times >= 50, "{call} was given a wide coordinate only {times} times");
+        println!("{call} with a wide coordinate: {times}");
+    }
 }
 
-fn lists(call: &Call) -> (Vec<u64>, Vec<u8>) {
+/// What is lent beside the words: the log, the output and the card.
+fn lists(call: &Call) -> (Vec<u64>, Vec<u8>, Vec<u8>) {
     match call {
-        Call::Reduce { log, .. } => (log.clone(), Vec::new()),
-        Call::Report { out } => (Vec::new(), out.clone()),
-        _ => (Vec::new(), Vec::new()),
+        Call::Reduce { log, .. } => (log.clone(), Vec::new(), Vec::new()),
+        Call::Report { out } => (Vec::new(), out.clone(), Vec::new()),
+        Call::Check { card } | Call::Load { card } => (Vec::new(), Vec::new(), card.clone()),
+        _ => (Vec::new(), Vec::new(), Vec::new()),
     }
 }
 
 fn by_reference(call: &Call, lent: &[u64]) -> Outcome {
     let mut words = lent.to_vec();
-    let (mut log, mut out) = lists(call);
+    let (mut log, mut out, card) = lists(call);
     let answer = match call {
         Call::Start { reference, capacity } => {
             single(calls::start(&mut words, *reference, *capacity))
@@ -131,14 +181,14 @@ fn by_reference(call: &Call, lent: &[u64]) -> Outcome {
         Call::Gain { point } => double(calls::gain(&words, *point)),
         Call::Share => double(calls::share(&words)),
         Call::Audit => double(calls::audit(&words).map(u64::from)),
-        Call::Check { card } => vec![cards::check(card)],
-        Call::Load { card } => match cards::load(&mut words, card) {
+        Call::Check { .. } => vec![cards::check(&card)],
+        Call::Load { .. } => match cards::load(&mut words, &card) {
             Ok(count) => vec![0, 0, count],
             Err((refusal, line)) => vec![refusal, line, 0],
         },
         Call::Report { .. } => double(calls::report(&words, &mut out)),
     };
-    Outcome { answer, words, log, out }
+    Outcome { answer, words, log, out, card }
 }
 
 fn single(result: Result<(), u64>) -> Vec<u64> {
@@ -192,9 +242,10 @@ impl<T: Copy + PartialEq> Fenced<T> {
 
 fn by_c(call: &Call, lent: &[u64]) -> Outcome {
     let mut words = Fenced::new(lent, 0x5e5e_5e5e_5e5e_5e5e);
-    let (log, out) = lists(call);
+    let (log, out, card) = lists(call);
     let mut log = Fenced::new(&log, 0x5e5e_5e5e_5e5e_5e5e);
     let mut out = Fenced::new(&out, 0x5e);
+    let card = Fenced::new(&card, 0x5e);
     let len = words.len();
     // SAFETY: each pointer and length are those of the lent part of one vector of its own.
     let answer = unsafe {
@@ -220,9 +271,9 @@ fn by_c(call: &Call, lent: &[u64]) -> Outcome {
             Call::Gain { point: [x, y, z] } => fields(sys::ta_gain(words.ptr(), len, *x, *y, *z)),
             Call::Share => fields(sys::ta_share(words.ptr(), len)),
             Call::Audit => fields(sys::ta_audit(words.ptr(), len)),
-            Call::Check { card } => vec![sys::ta_card_check(card.as_ptr(), card.len())],
-            Call::Load { card } => {
-                let answer = sys::ta_card_load(words.mut_ptr(), len, card.as_ptr(), card.len());
+            Call::Check { .. } => vec![sys::ta_card_check(card.ptr(), card.len())],
+            Call::Load { .. } => {
+                let answer = sys::ta_card_load(words.mut_ptr(), len, card.ptr(), card.len());
                 vec![answer.refusal, answer.line, answer.count]
             }
             Call::Report { .. } => {
@@ -231,7 +282,7 @@ fn by_c(call: &Call, lent: &[u64]) -> Outcome {
             }
         }
     };
-    Outcome { answer, words: words.open(), log: log.open(), out: out.open() }
+    Outcome { answer, words: words.open(), log: log.open(), out: out.open(), card: card.open() }
 }
 
 fn fields(answer: sys::Answer) -> Vec<u64> {
@@ -240,14 +291,13 @@ fn fields(answer: sys::Answer) -> Vec<u64> {
 
 fn by_safe(call: &Call, lent: &[u64]) -> Outcome {
     let mut memory = lent.to_vec();
-    let (mut log, mut out) = lists(call);
+    let (mut log, mut out, card) = lists(call);
+    let point = narrow(call.point().unwrap_or_default()).expect("no wide coordinate");
     let answer = match call {
-        Call::Start { reference, capacity } => {
-            single(numbered(words::start(&mut memory, *reference, *capacity)))
+        Call::Start { capacity, .. } => {
+            single(numbered(words::start(&mut memory, point, *capacity)))
         }
-        Call::Insert { number, point } => {
-            single(numbered(words::insert(&mut memory, *number, *point)))
-        }
+        Call::Insert { number, .. } => single(numbered(words::insert(&mut memory, *number, point))),
         Call::Remove { number } => single(numbered(words::remove(&mut memory, *number))),
         Call::Least => match words::least(&memory) {
             Ok(least) => vec![0, least.number, least.contribution],
@@ -255,20 +305,20 @@ fn by_safe(call: &Call, lent: &[u64]) -> Outcome {
         },
         Call::Reduce { k, .. } => double(numbered(words::reduce(&mut memory, *k, &mut log))),
         Call::Joint { first, second } => double(numbered(words::joint(&memory, *first, *second))),
-        Call::Gain { point } => double(numbered(words::gain(&memory, *point))),
+        Call::Gain { .. } => double(numbered(words::gain(&memory, point))),
         Call::Share => double(numbered(words::share(&memory))),
         Call::Audit => double(numbered(words::audit(&memory)).map(u64::from)),
-        Call::Check { card } => match check_card(card) {
+        Call::Check { .. } => match check_card(&card) {
             Ok(()) => vec![0],
             Err(CardRefusal { refusal, line }) => vec![refusal.number() * 65_536 + line],
         },
-        Call::Load { card } => match words::load_card(&mut memory, card) {
+        Call::Load { .. } => match words::load_card(&mut memory, &card) {
             Ok(count) => vec![0, 0, count],
             Err(CardRefusal { refusal, line }) => vec![refusal.number(), line, 0],
         },
         Call::Report { .. } => double(numbered(words::report(&memory, &mut out))),
     };
-    Outcome { answer, words: memory, log, out }
+    Outcome { answer, words: memory, log, out, card }
 }
 
 fn numbered<T>(result: Result<T, Refusal>) -> Result<T, u64> {

@@ -63,6 +63,9 @@ fn run(percent: u64, size: Size) {
     tally.covers("share", &[0, 1, 2, 3]);
     tally.covers("audit", &[0, 1, 2, 3]);
     tally.covers("report", &[0, 1, 2, 3, 16]);
+    for call in ["start", "insert", "gain"] {
+        tally.covers_wide(call);
+    }
 }
 
 #[test]

@@ -139,7 +139,7 @@ pub fn tight(rng: &mut Rng, words: &mut [u64], call: &Call) {
     let mut points = archive.points();
     let mut places: Vec<usize> = (0..points.len()).map(|i| 12 + 5 * i).collect();
     let (point, inserts) = match call {
-        Call::Insert { point, .. } => (calls::wide(*point), true),
+        Call::Insert { point, .. } => (*point, true),
         Call::Remove { number } => match archive.position(*number) {
             Some(position) => {
                 places.remove(position);
@@ -271,13 +271,23 @@ pub fn call(rng: &mut Rng, shape: &Shape, words: &[u64]) -> Call {
     }
 }
 
+/// A number of more than 32 bits, often one that a cut to 32 bits would make 0, 1 or this one.
+pub fn wide(rng: &mut Rng, narrow: u64) -> u64 {
+    let high = 1 << rng.within(32..=63);
+    let any = rng.next() | 1 << 32;
+    rng.pick(&[high, high + 1, high + narrow, any, u64::MAX])
+}
+
 /// The point of an insertion or a gain, now and then above the reference.
-fn point(rng: &mut Rng, shape: &Shape, archive: &Archive) -> [u32; 3] {
-    let mut point = shape.point(rng, &archive.points()).map(|c| c as u32);
-    if rng.chance(8) {
-        let axis = rng.index(3);
-        let reference = archive.reference[axis] as u32;
-        point[axis] = rng.pick(&[reference, reference + 1, 1_048_577, u32::MAX, 1 << 31]);
+fn point(rng: &mut Rng, shape: &Shape, archive: &Archive) -> Point {
+    let mut point = shape.point(rng, &archive.points());
+    let axis = rng.index(3);
+    if rng.chance(6) {
+        let reference = archive.reference[axis];
+        let near = [reference, reference + 1, MAX_REFERENCE + 1, 1 << 31, u64::from(u32::MAX)];
+        point[axis] = rng.pick(&near);
+    } else if rng.chance(4) {
+        point[axis] = wide(rng, point[axis]);
     }
     point
 }
@@ -313,10 +323,13 @@ fn reduce(rng: &mut Rng, shape: &Shape, archive: &Archive) -> Call {
 }
 
 fn start(rng: &mut Rng, shape: &Shape) -> Call {
-    let mut reference = shape.reference.map(|r| r as u32);
+    let mut reference = shape.reference;
+    let axis = rng.index(3);
     if rng.chance(30) {
-        let near = [0, 1, MAX_REFERENCE as u32, MAX_REFERENCE as u32 + 1, u32::MAX];
-        reference[rng.index(3)] = rng.pick(&near);
+        let near = [0, 1, MAX_REFERENCE, MAX_REFERENCE + 1, u64::from(u32::MAX)];
+        reference[axis] = rng.pick(&near);
+    } else if rng.chance(10) {
+        reference[axis] = wide(rng, reference[axis]);
     }
     // For some of these 8 + 5 × capacity is small again where it wraps.
     let wraps = [u64::MAX / 5 - 1, u64::MAX / 5, u64::MAX / 5 + 1, u64::MAX];

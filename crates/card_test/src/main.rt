@@ -24,8 +24,50 @@ fn load(words: &mut [u64], n: usize, text: &[u8]) -> card::Loaded
     card::load(&mut words[0..n], text)
 }
 
-// Whether reader and check judge the card so, and only its archive is written.
-fn judged(text: &[u8], row: [u64; 7]) -> bool {
+// Where the five words of a line stand that is due: words 1 to 5, then the records.
+fn place_of(line: usize) -> usize {
+    if line == 0 { 1 } else { 5 * (line % 1024) + 3 }
+}
+
+// Whether the five words from k on are these.
+fn same_five(words: &[u64], k: usize, five: [u64; 7]) -> bool {
+    let from = k % 8192;
+    at(words, from) == five[0]
+        && at(words, from + 1) == five[1]
+        && at(words, from + 2) == five[2]
+        && at(words, from + 3) == five[3]
+        && at(words, from + 4) == five[4]
+}
+
+// Whether the words are those of so many lines, five to a line.
+fn same_words(words: &[u64], due: &[u8], lines: usize) -> bool {
+    let mut from: usize = 0;
+    for i in 0..lines {
+        if due.len() <= from {
+            return false;
+        }
+        if !same_five(words, place_of(i), testing::numbers(due, from)) {
+            return false;
+        }
+        from = testing::next_line(due, from);
+    }
+    true
+}
+
+// Whether the words are those of an archive with this count of trials: the lines due, or the largest card.
+fn holds(words: &[u64], due: &[u8], count: u64) -> bool {
+    if count == 512 {
+        return scattered(words);
+    }
+    let n = (count % 512) as usize;
+    at(words, 6) == 0
+        && at(words, 7) == 0
+        && same_words(words, due, n + 1)
+        && testing::filled(words, 5 * n + 8, 0)
+}
+
+// Whether reader and check judge the card so, only its archive is written, and an accepted card's is the one due.
+fn judged(text: &[u8], due: &[u8], row: [u64; 7]) -> bool {
     let mut words = [7u64; 2568];
     let n = (row[0] % 2569) as usize;
     let a = load(&mut words, n, text);
@@ -33,6 +75,7 @@ fn judged(text: &[u8], row: [u64; 7]) -> bool {
         && at(&words, 0) == row[6]
         && testing::filled(&words, row[5] as usize, 7)
         && same_check(text, row)
+        && (row[1] != 0 || holds(first(&words, row[5] as usize), due, row[3]))
 }
 
 fn report(words: &[u64], out: &mut [u8], n: usize) -> calls::Answer
@@ -77,6 +120,27 @@ fn value(k: u64) -> u64 {
     }
 }
 
+// Whether the record at k is of the largest card, and the next one, if any, is above it in z.
+fn scattered_at(words: &[u64], k: usize) -> bool {
+    let from = k % 8192;
+    let n = at(words, from) % 1024 * 4;
+    at(words, from) == value(n)
+        && at(words, from + 1) == value(n + 1)
+        && at(words, from + 2) == value(n + 2)
+        && at(words, from + 3) == value(n + 3)
+        && (2568 <= from + 5 || at(words, from + 3) < at(words, from + 8))
+}
+
+// Whether the records are the trials of the largest card, in their order.
+fn scattered(words: &[u64]) -> bool {
+    for i in 0..512usize {
+        if !scattered_at(words, 5 * i + 8) {
+            return false;
+        }
+    }
+    true
+}
+
 // Writes the largest card, of 512 trials, and a trial more; the bytes are line ends.
 fn scatter(bytes: &mut [u8])
     requires { ⌜ 16962 ≤ length (now bytes) ⌝ }
@@ -84,6 +148,14 @@ fn scatter(bytes: &mut [u8])
     for k in 0..2056usize {
         text::put_number(bytes, 33 * (k / 4) + 8 * (k % 4), 8, value(k as u64));
     }
+}
+
+// The bytes from `from` on.
+fn behind(text: &[u8], from: usize) -> &[u8] {
+    if text.len() < from {
+        return &text[..0];
+    }
+    &text[from..]
 }
 
 // Whether a line of this name comes out as it should; no for the others.
@@ -99,9 +171,13 @@ fn line(text: &[u8], big: &[u8], name: u8, place: usize, from: usize) -> bool
     }
     let n = row[4] as usize;
     if name == b'b' {
-        return judged(part(big, 0, n), row);
+        return judged(part(big, 0, n), b"", row);
     }
-    judged(part(text, from, n), row)
+    judged(
+        part(text, from, n),
+        behind(text, from % 65536 + n % 65536),
+        row,
+    )
 }
 
 // How many lines of this name come out as they should.

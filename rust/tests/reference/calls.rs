@@ -36,10 +36,6 @@ pub fn capacity_allowed(capacity: u64) -> bool {
     (1..=MAX_CAPACITY).contains(&capacity)
 }
 
-pub fn wide(point: [u32; 3]) -> Point {
-    point.map(u64::from)
-}
-
 /// Rows 1 to 3, and what the words say.
 pub fn read(words: &[u64]) -> Result<Archive, u64> {
     refuse_if(words.len() < 8, 1)?;
@@ -159,16 +155,16 @@ impl Archive {
     }
 }
 
-pub fn start(words: &mut [u64], reference: [u32; 3], capacity: u64) -> Result<(), u64> {
-    refuse_if(!reference_allowed(wide(reference)) || !capacity_allowed(capacity), 4)?;
+pub fn start(words: &mut [u64], reference: Point, capacity: u64) -> Result<(), u64> {
+    refuse_if(!reference_allowed(reference) || !capacity_allowed(capacity), 4)?;
     refuse_if((words.len() as u64) < 8 + 5 * capacity, 1)?;
-    Archive::empty(wide(reference), capacity).write(words);
+    Archive::empty(reference, capacity).write(words);
     Ok(())
 }
 
-pub fn insert(words: &mut [u64], number: u64, point: [u32; 3]) -> Result<(), u64> {
+pub fn insert(words: &mut [u64], number: u64, point: Point) -> Result<(), u64> {
     let mut archive = read(words)?;
-    archive.insert(number, wide(point))?;
+    archive.insert(number, point)?;
     archive.write(words);
     Ok(())
 }
@@ -210,9 +206,8 @@ pub fn joint(words: &[u64], first: u64, second: u64) -> Result<u64, u64> {
     Ok(joints[if b > a { b - 1 } else { b }])
 }
 
-pub fn gain(words: &[u64], point: [u32; 3]) -> Result<u64, u64> {
+pub fn gain(words: &[u64], point: Point) -> Result<u64, u64> {
     let archive = read(words)?;
-    let point = wide(point);
     refuse_if((0..3).any(|axis| point[axis] > archive.reference[axis]), 6)?;
     Ok(gain_and_joints(point, &archive.points(), archive.reference).0)
 }
