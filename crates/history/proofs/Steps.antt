@@ -42,19 +42,19 @@ pub record Agree (s : Shape) (rest w : List ℕ) (c : Call) (o : Outcome) (turn 
   pub holds : Holds s rest (turn .book) (o .words ++ drop (lent-of c) w)
 
 -- The common form of the three calls: rows, value, new archive and notes, each from the archive that is read.
-record Deed : Type 0 where
-  rows : Archive → ℕ
-  value : Archive → ℕ
-  new : Archive → Archive
-  noted : Archive → List ℕ
+pub record Deed : Type 0 where
+  pub rows : Archive → ℕ
+  pub value : Archive → ℕ
+  pub new : Archive → Archive
+  pub noted : Archive → List ℕ
 
-abbrev insert-deed : Trial → Deed
+abbrev pub insert-deed : Trial → Deed
 insert-deed t = record { rows = λ a. insert-rows a t; value = λ a. 0; new = λ a. inserted a t; noted = λ a. [] }
 
-abbrev remove-deed : ℕ → Deed
+abbrev pub remove-deed : ℕ → Deed
 remove-deed n = record { rows = λ a. remove-rows a n; value = λ a. 0; new = λ a. removed a n; noted = λ a. [] }
 
-abbrev reduce-deed : ℕ → List ℕ → Deed
+abbrev pub reduce-deed : ℕ → List ℕ → Deed
 reduce-deed k log =
     record {
       rows = λ a. reduce-rows a k (length log);

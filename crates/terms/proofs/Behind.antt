@@ -19,7 +19,7 @@ use Rattle.words.specs.Layout.{extent, layout, word, read-shape, read, behind}
 use Rattle.words.specs.Format.{guard, shape-allowed, archive-rows}
 use Rattle.words.proofs.Reading.{read-layout, length-layout, behind-layout}
 use Rattle.words.proofs.Passed.{guard-none, Sound, sound-passes, passed, passed-both}
-use Rattle.calls.specs.Calls.{empty, inserted, insert-rows, removed, remove-rows, least-row, least-rows, joint-of, joint-rows, insert-gain, gain-rows, share-of, audited, dropped, after-drops, notes, reduce-rows}
+use Rattle.calls.specs.Calls.{empty, inserted, removed, least-row, least-rows, joint-of, joint-rows, insert-gain, gain-rows, share-of, audited, dropped, after-drops, reduce-rows}
 use Rattle.calls.specs.declared.Answer.{Answer}
 use Rattle.calls.specs.Lent
 use Rattle.calls.specs.Lent.{Outcome, leaves, answer, least-answer, start-rows}
@@ -32,6 +32,7 @@ use Rattle.card.specs.Card.{shape-on, lines, refused, accepted}
 use Rattle.card.specs.Verdict.{Verdict, refusal, archive, shape-rows, judge, carried-out}
 use Rattle.card.proofs.Judging.{loads}
 use Rattle.card.proofs.Theorems.{same-answer}
+use Rattle.history.proofs.Steps.{Deed, insert-deed, remove-deed, reduce-deed}
 use Rattle.history.proofs.Histories.{holds-front, holds-behind}
 use Rattle.reports.specs.Report
 use Rattle.reports.specs.Report.{report-text, report-rows, output, reported}
@@ -79,10 +80,10 @@ leaves-alike v w log zero value new b c noted e same fits =
     record { answer = refl; words = take-at new b e (fits refl) ∙ sym (take-at new c e (fits refl)); log = refl }
 leaves-alike v w log (suc k) value new b c noted e same fits = record { answer = refl; words = same; log = refl }
 
-leaves-refused : (v w log : List ℕ) (n : ℕ) (i j : ℕ) (a b c d : List ℕ) (e : ℕ) → take e v ≡ take e w
+refusals-alike : (v w log : List ℕ) (n : ℕ) (i j : ℕ) (a b c d : List ℕ) (e : ℕ) → take e v ≡ take e w
     → LeftAlike e (leaves v log (suc n) i a c) (leaves w log (suc n) j b d)
 unfolding leaves written
-leaves-refused v w log n i j a b c d e same = record { answer = refl; words = same; log = refl }
+refusals-alike v w log n i j a b c d e same = record { answer = refl; words = same; log = refl }
 
 leaves-behind : (w log : List ℕ) (k value : ℕ) (new noted : List ℕ) (e : ℕ) → (k ≡ 0 → length new ≡ e)
     → drop e (leaves w log k value (new ++ drop e w) noted .words) ≡ drop e w
@@ -90,14 +91,9 @@ unfolding leaves
 leaves-behind w log zero value new noted e fits = drop-at new (drop e w) e (fits refl)
 leaves-behind w log (suc k) value new noted e fits = refl
 
--- Calls that write: rows, value, new archive and notes, each from the archive that is read; the new archive takes as many
--- words as the old one.
-record Deed : Type 0 where
-  rows : Archive → ℕ
-  value : Archive → ℕ
-  new : Archive → Archive
-  noted : Archive → List ℕ
-  fits : (a : Archive) → Sound a → rows a ≡ 0 → length (layout (new a)) ≡ extent (a .shape .capacity)
+-- Calls that write (Deed): the new archive takes as many words as the old one.
+abbrev Fits : Deed → Type 0
+Fits d = (a : Archive) → Sound a → d .rows a ≡ 0 → length (layout (d .new a)) ≡ extent (a .shape .capacity)
 
 abbrev outcome : Deed → List ℕ → List ℕ → Outcome
 outcome d log w =
@@ -109,54 +105,39 @@ outcome-held d log w b a e s =
     let after : behind w ≡ b = ap behind e ∙ behind-layout a b (s .held-within) in
     rw (reads w b a e, passes w b a e s (d .rows a), after)
 
-deed-alike : (d : Deed) (log v w : List ℕ) → Alike (extent (word v 1)) v w → LeftAlike (extent (word v 1)) (outcome d log v) (outcome d log w)
+deed-alike : (d : Deed) → Fits d → (log v w : List ℕ) → Alike (extent (word v 1)) v w → LeftAlike (extent (word v 1)) (outcome d log v) (outcome d log w)
 unfolding read read-shape
-deed-alike d log v w h = go (seen v w h)
+deed-alike d fits log v w h = go (seen v w h)
   where
     go : Seen v w → LeftAlike (extent (word v 1)) (outcome d log v) (outcome d log w)
     go (turned-down n e f) =
         rw (refused-row v n (d .rows (read v)) e, refused-row w n (d .rows (read w)) f)
-        (leaves-refused v w log n _ _ _ _ _ _ (extent (word v 1)) (h .same))
+        (refusals-alike v w log n _ _ _ _ _ _ (extent (word v 1)) (h .same))
     go (held a b c s e f) =
         let size : extent (a .shape .capacity) ≡ extent (word v 1) = ap (λ k. extent (k .shape .capacity)) (sym (reads v b a e)) in
         rw (outcome-held d log v b a e s, outcome-held d log w c a f s)
-        (leaves-alike v w log (d .rows a) (d .value a) (layout (d .new a)) b c (d .noted a) (extent (word v 1)) (h .same) (λ z. d .fits a s z ∙ size))
+        (leaves-alike v w log (d .rows a) (d .value a) (layout (d .new a)) b c (d .noted a) (extent (word v 1)) (h .same) (λ z. fits a s z ∙ size))
 
-deed-behind : (d : Deed) (log w : List ℕ) → drop (extent (word w 1)) (outcome d log w .words) ≡ drop (extent (word w 1)) w
+deed-behind : (d : Deed) → Fits d → (log w : List ℕ) → drop (extent (word w 1)) (outcome d log w .words) ≡ drop (extent (word w 1)) w
 unfolding behind read read-shape
-deed-behind d log w =
+deed-behind d fits log w =
     leaves-behind w log (archive-rows w (d .rows (read w))) (d .value (read w)) (layout (d .new (read w))) (d .noted (read w)) (extent (word w 1))
-    (λ e. let both = passed-both w (d .rows (read w)) e in d .fits (read w) (passed w (both .0) .sound) (both .1))
+    (λ e. let both = passed-both w (d .rows (read w)) e in fits (read w) (passed w (both .0) .sound) (both .1))
 
-unfoldable insert-deed : Trial → Deed
+insert-fits : (t : Trial) → Fits (insert-deed t)
 unfolding inserted
-insert-deed t =
-    record {
-      rows = λ a. insert-rows a t;
-      value = λ a. 0;
-      new = λ a. inserted a t;
-      noted = λ a. [];
-      fits = λ a s e. length-layout (inserted a t) (inserted-sound a t s (insert-passed a t e) .held-within);
-    }
+insert-fits t a s e = length-layout (inserted a t) (inserted-sound a t s (insert-passed a t e) .held-within)
 
-unfoldable remove-deed : ℕ → Deed
+remove-fits : (n : ℕ) → Fits (remove-deed n)
 unfolding removed
-remove-deed n =
-    record {
-      rows = λ a. remove-rows a n;
-      value = λ a. 0;
-      new = λ a. removed a n;
-      noted = λ a. [];
-      fits = λ a s e. length-layout (removed a n) (removed-sound a n s (remove-passed a n e) .held-within);
-    }
+remove-fits n a s e = length-layout (removed a n) (removed-sound a n s (remove-passed a n e) .held-within)
 
 drops-shape : (n : ℕ) (a : Archive) → after-drops n a .shape ≡ a .shape
 unfolding after-drops dropped removed
 drops-shape zero a = refl
 drops-shape (suc n) a = drops-shape n (dropped a)
 
-reduce-fits : (k log : ℕ) (a : Archive) → Sound a → reduce-rows a k log ≡ 0
-    → length (layout (after-drops (length (a .rows) - k) a)) ≡ extent (a .shape .capacity)
+reduce-fits : (k : ℕ) (log : List ℕ) → Fits (reduce-deed k log)
 unfolding reduce-rows
 reduce-fits k log a s e =
     let enough = guard-none _ _ _ e in
@@ -166,16 +147,6 @@ reduce-fits k log a s e =
     let n : ℕ = length (a .rows) - k in
     let all = drops-down n a s (audited-counted a (not-false _ (yes .0))) (omega arith) in
     length-layout (after-drops n a) (all .sound .held-within) ∙ ap (λ q. extent (q .capacity)) (drops-shape n a)
-
-unfoldable reduce-deed : ℕ → ℕ → Deed
-reduce-deed k log =
-    record {
-      rows = λ a. reduce-rows a k log;
-      value = λ a. length (a .rows) - k;
-      new = λ a. after-drops (length (a .rows) - k) a;
-      noted = λ a. notes (length (a .rows) - k) a;
-      fits = λ a s e. reduce-fits k log a s e;
-    }
 
 -- Start: its earlier contents don't matter, and both slices are long enough.
 empty-fits : (s : Shape) → length (layout (empty s)) ≡ extent (s .capacity)
@@ -255,15 +226,15 @@ abbrev as-numbers : Answer → List ℕ
 as-numbers a = a .refusal ∷ a .value ∷ []
 
 long-alike : (c : ArchiveCall) (v w : List ℕ) → Alike (reach c v) v w → DoneAlike c v w
-unfolding reach capacity-for extent result only-read insert-deed remove-deed reduce-deed Lent.insert Lent.remove Lent.reduce Lent.least Lent.joint Lent.gain-answer Lent.share Lent.audit Report.report reported report-rows least-answer output
+unfolding reach capacity-for extent result only-read Lent.insert Lent.remove Lent.reduce Lent.least Lent.joint Lent.gain-answer Lent.share Lent.audit Report.report reported report-rows least-answer output
 long-alike (ArchiveCall.start s) v w h =
     outcomes-alike _ v w _ _ refl refl (start-alike s v w h)
 long-alike (ArchiveCall.insert t) v w h =
-    outcomes-alike _ v w _ _ refl refl (deed-alike (insert-deed t) [] v w h)
+    outcomes-alike _ v w _ _ refl refl (deed-alike (insert-deed t) (insert-fits t) [] v w h)
 long-alike (ArchiveCall.remove n) v w h =
-    outcomes-alike _ v w _ _ refl refl (deed-alike (remove-deed n) [] v w h)
+    outcomes-alike _ v w _ _ refl refl (deed-alike (remove-deed n) (remove-fits n) [] v w h)
 long-alike (ArchiveCall.reduce k log) v w h =
-    outcomes-alike _ v w _ _ refl refl (deed-alike (reduce-deed k (length log)) log v w h)
+    outcomes-alike _ v w _ _ refl refl (deed-alike (reduce-deed k log) (reduce-fits k log) log v w h)
 long-alike ArchiveCall.least v w h =
     let same = question least-rows (λ n a. least-answer n (least-row (a .rows))) (λ n a b. refl) v w h in
     record { answer = ap (λ a. a .refusal ∷ a .number ∷ a .contribution ∷ []) same; words = h .same; other = refl }
@@ -309,11 +280,11 @@ not-read c v w same = go (leb (reach c v) (length v)) (compared (reach c v) (len
         rw (← equal) (record { answer = refl; words = refl; other = refl })
 
 not-written : (c : ArchiveCall) (w : List ℕ) → drop (reach c w) (result c w .words) ≡ drop (reach c w) w
-unfolding reach capacity-for extent result written only-read insert-deed remove-deed reduce-deed Lent.insert Lent.remove Lent.reduce
+unfolding reach capacity-for extent result written only-read Lent.insert Lent.remove Lent.reduce
 not-written (ArchiveCall.start s) w = start-behind s w
-not-written (ArchiveCall.insert t) w = deed-behind (insert-deed t) [] w
-not-written (ArchiveCall.remove n) w = deed-behind (remove-deed n) [] w
-not-written (ArchiveCall.reduce k log) w = deed-behind (reduce-deed k (length log)) log w
+not-written (ArchiveCall.insert t) w = deed-behind (insert-deed t) (insert-fits t) [] w
+not-written (ArchiveCall.remove n) w = deed-behind (remove-deed n) (remove-fits n) [] w
+not-written (ArchiveCall.reduce k log) w = deed-behind (reduce-deed k log) (reduce-fits k log) log w
 not-written ArchiveCall.least w = refl
 not-written (ArchiveCall.joint m n) w = refl
 not-written (ArchiveCall.gain p) w = refl

@@ -24,11 +24,11 @@ use Rattle.history.proofs.Kept.{holds-just, keeps-counts}
 use Rattle.terms.specs.Loading.{no-numbers, numbers-on, card-shape, card-trials, all-entered, card-book, card-insertions, done, AsCalls, AfterLoading, TermsAfterLoading}
 
 -- A line that is not refused leaves the verdict to the rest of the card.
-judged-done : (before : List ℕ) (k line : ℕ) (rest : Loading) → judged before k line rest .answer .refusal ≡ 0
+line-passed : (before : List ℕ) (k line : ℕ) (rest : Loading) → judged before k line rest .answer .refusal ≡ 0
     → (k ≡ 0) × (judged before k line rest ≡ rest)
 unfolding judged refused
-judged-done before zero line rest e = (refl, refl)
-judged-done before (suc k) line rest e = absurd (let no : ⊥ = omega arith in no)
+line-passed before zero line rest e = (refl, refl)
+line-passed before (suc k) line rest e = absurd (let no : ⊥ = omega arith in no)
 
 -- An insertion that the book does not refuse enters the trial.
 unless-refused : (x : Bool) (n : ℕ) (b new : Book) (turn : Turn) → (turn .reply .refusal ≡ 0 → turn .book ≡ new)
@@ -93,7 +93,7 @@ further-inserted s rest before w b n size long h [] e =
 further-inserted s rest before w b n size long h (none ∷ ls) e = absurd (let no : ⊥ = omega arith in no)
 further-inserted s rest before w b n size long h (some v ∷ ls) e =
     let t : Trial = trial-on v in
-    let d = judged-done before (Lent.insert w t .refusal) (n + 2) (further before (Lent.insert w t .words) (n + 1) ls) e in
+    let d = line-passed before (Lent.insert w t .refusal) (n + 2) (further before (Lent.insert w t .words) (n + 1) ls) e in
     let one = inserts s rest w b size (holds-size s rest w b h ∙ sym long) h t (d .0) in
     let later = further-inserted s rest before (Lent.insert w t .words) (entered t b) (n + 1) size long (one .holds) ls (ap (λ l. l .answer .refusal) (sym (d .1)) ∙ e) in
     let count : further before (Lent.insert w t .words) (n + 1) ls .answer .count ≡ n + 1 + length (trials-on ls) = later .count in
@@ -123,7 +123,7 @@ card-lines-done before [] e = absurd (let no : ⊥ = omega arith in no)
 card-lines-done before (none ∷ ls) e = absurd (let no : ⊥ = omega arith in no)
 card-lines-done before (some v ∷ ls) e =
     let s : Shape = shape-on v in
-    let d = judged-done before (start before s .refusal) 1 (further before (start before s .words) 0 ls) e in
+    let d = line-passed before (start before s .refusal) 1 (further before (start before s .words) 0 ls) e in
     let begun : Begun before (start before s .words) s (opened-by s) = started before s (d .0) in
     let rest : List ℕ = drop (extent (s .capacity)) before in
     let all = further-inserted s rest before (start before s .words) (opened-by s) 0 (length before) (begun .size) (begun .holds) ls (ap (λ l. l .answer .refusal) (sym (d .1)) ∙ e) in
