@@ -18,10 +18,10 @@ if [ $# -ne 1 ] || [ ! -f "$1" ]; then
     echo "usage: $0 LIB" >&2
     exit 2
 fi
-lib=$(cd "$(dirname "$1")" && pwd)/$(basename "$1")
-cd "$(dirname "$0")/.." || exit 2
-work=$(mktemp -d) || exit 2
-trap 'rm -rf "$work"' EXIT
+# shellcheck source=bench/common.sh
+. "$(dirname "$0")/common.sh"
+lib=$(absolute "$1")
+cd "$here/.." || exit 2
 
 # Each reader below writes lines of three fields, parted by tabs: who says it, of which name, what.
 # Prototypes are said in the header's terms, without names of lengths, which the source has not.

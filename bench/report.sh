@@ -12,12 +12,9 @@ if [ $# -ne 1 ] || [ ! -x "$1" ]; then
     echo "usage: $0 PROGRAM" >&2
     exit 2
 fi
-report=$(cd "$(dirname "$1")" && pwd)/$(basename "$1")
-here=$(cd "$(dirname "$0")" && pwd)
-work=$(mktemp -d) || exit 2
-trap 'rm -rf "$work"' EXIT
-passed=0
-failed=0
+# shellcheck source=bench/common.sh
+. "$(dirname "$0")/common.sh"
+report=$(absolute "$1")
 # The system's words for an error are in English.
 export LC_ALL=C
 
@@ -101,9 +98,8 @@ while IFS= read -r line; do
     on "$name" "$here/cards/$name" "$expected"
 done <"$here/expected.txt"
 for card_file in "$here"/cards/*.card; do
-    grep -q "^$(basename "$card_file"): " "$here/expected.txt" && continue
-    failed=$((failed + 1))
-    echo "FAILED: no line in expected.txt for $(basename "$card_file")"
+    name=$(basename "$card_file")
+    check "expected.txt has a line for $name" grep "^$name: " "$here/expected.txt"
 done
 
 # Longer cards: what is behind line 514 decides nothing, and all before it does.
@@ -157,13 +153,7 @@ wrote "a pipe that nobody reads, the signal ignored" $? "$nothing" "$writing: Br
 exec 4>&-
 
 # Faults in the middle of reading and writing.
-c99() {
-    "${CC:-gcc}" -std=c99 -Wall -Wextra -Wpedantic -Werror "$@"
-}
-if ! c99 -O2 -shared -fPIC "$here/faults.c" -o "$work/faults.so"; then
-    failed=$((failed + 1))
-    echo "FAILED: faults.c compiles"
-fi
+check "faults.c compiles" c99 -O2 -shared -fPIC "$here/faults.c" -o "$work/faults.so"
 broken="$reading: Input/output error"
 for bytes in 0 1 99 100 164 165; do
     faulty "$card" "$nothing" "$broken" FAULT_READ_AFTER=$bytes
@@ -186,5 +176,4 @@ faulty "$card" "$text" "" FAULT_WRITE_INTERRUPTED=1
 faulty "$full" "$long" "" FAULT_WRITE_INTERRUPTED=3 FAULT_WRITE_AT_MOST=7
 faulty "$card" "$nothing" "$writing: Interrupted system call" FAULT_WRITE_INTERRUPTED=2000000
 
-echo "$passed passed, $failed failed"
-[ "$failed" -eq 0 ]
+finish

@@ -12,32 +12,12 @@ if [ $# -ne 1 ] || [ ! -f "$1" ]; then
     echo "usage: $0 LIB" >&2
     exit 2
 fi
-lib=$(cd "$(dirname "$1")" && pwd)/$(basename "$1")
-here=$(cd "$(dirname "$0")" && pwd)
-work=$(mktemp -d) || exit 2
-trap 'rm -rf "$work"' EXIT
-passed=0
-failed=0
-
-c99() {
-    "${CC:-gcc}" -std=c99 -Wall -Wextra -Wpedantic -Werror -I"$here/../include" "$@"
-}
+# shellcheck source=bench/common.sh
+. "$(dirname "$0")/common.sh"
+lib=$(absolute "$1")
 
 cxx() {
     "${CXX:-g++}" -Wall -Wextra -Wpedantic -Werror -I"$here/../include" -x c++ "$@"
-}
-
-# check WHAT COMMAND..: one test; a command that fails shows what it wrote.
-check() {
-    what=$1
-    shift
-    if "$@" >"$work/said" 2>&1; then
-        passed=$((passed + 1))
-    else
-        failed=$((failed + 1))
-        echo "FAILED: $what"
-        cat "$work/said"
-    fi
 }
 
 # judged STATUS EXPECTED NAME..: the bench program on these cards ends so and writes the file.
@@ -145,5 +125,4 @@ programs sanitized -O1 -g -fsanitize=address,undefined -fno-sanitize-recover=all
 check "stack compiles" c99 -O2 -pthread "$here/stack.c" "$lib" -o "$work/stack"
 counted stack
 
-echo "$passed passed, $failed failed"
-[ "$failed" -eq 0 ]
+finish
