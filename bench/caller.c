@@ -137,23 +137,23 @@ static int is_load(ta_load_answer answer, uint64_t refusal, uint64_t line, uint6
 
 static uint64_t lent[LENGTH(memory)];
 
-static void lend(void)
+static void remember(uint64_t *copy)
 {
-    memcpy(lent, memory, sizeof memory);
+    memcpy(copy, memory, sizeof memory);
 }
 
-static void check_only_read(void)
+static void check_untouched(const uint64_t *copy)
 {
-    CHECK(memcmp(lent, memory, sizeof memory) == 0);
+    CHECK(memcmp(copy, memory, sizeof memory) == 0);
 }
 
 static ta_answer joint(uint64_t first, uint64_t second)
 {
     ta_answer answer;
 
-    lend();
+    remember(lent);
     answer = ta_joint(words, LENT, first, second);
-    check_only_read();
+    check_untouched(lent);
     return answer;
 }
 
@@ -161,9 +161,9 @@ static ta_answer gain(uint64_t x, uint64_t y, uint64_t z)
 {
     ta_answer answer;
 
-    lend();
+    remember(lent);
     answer = ta_gain(words, LENT, x, y, z);
-    check_only_read();
+    check_untouched(lent);
     return answer;
 }
 
@@ -171,9 +171,9 @@ static ta_answer share(void)
 {
     ta_answer answer;
 
-    lend();
+    remember(lent);
     answer = ta_share(words, LENT);
-    check_only_read();
+    check_untouched(lent);
     return answer;
 }
 
@@ -181,9 +181,9 @@ static ta_answer audit(void)
 {
     ta_answer answer;
 
-    lend();
+    remember(lent);
     answer = ta_audit(words, LENT);
-    check_only_read();
+    check_untouched(lent);
     return answer;
 }
 
@@ -191,9 +191,9 @@ static ta_least_answer least(void)
 {
     ta_least_answer answer;
 
-    lend();
+    remember(lent);
     answer = ta_least(words, LENT);
-    check_only_read();
+    check_untouched(lent);
     return answer;
 }
 
@@ -231,9 +231,9 @@ static ta_answer write_report(size_t len, size_t out_len)
     ta_answer answer;
 
     memset(out_memory, '#', sizeof out_memory);
-    lend();
+    remember(lent);
     answer = ta_report(words, len, out, out_len);
-    check_only_read();
+    check_untouched(lent);
     return answer;
 }
 
@@ -421,20 +421,10 @@ static void card_and_report(void)
 
 static uint64_t before[LENGTH(memory)];
 
-static void remember(void)
-{
-    memcpy(before, memory, sizeof memory);
-}
-
-static void check_untouched(void)
-{
-    CHECK(memcmp(before, memory, sizeof memory) == 0);
-}
-
 /* Rows 1 to 3, given by every call that reads an archive. */
 static void check_row(uint64_t row, size_t len)
 {
-    remember();
+    remember(before);
     fill(log_memory, LENGTH(log_memory));
     CHECK(ta_insert(words, len, 9, 0, 0, 0) == row);
     CHECK(ta_remove(words, len, 1) == row);
@@ -447,7 +437,7 @@ static void check_row(uint64_t row, size_t len)
     CHECK(is_answer(write_report(len, OUT), row, 0));
     check_log(0);
     check_out(0);
-    check_untouched();
+    check_untouched(before);
 }
 
 static void rows_1_to_3(void)
@@ -472,7 +462,7 @@ static void rows_1_to_3(void)
 static void rows_4_to_10(void)
 {
     insert_card(4);
-    remember();
+    remember(before);
     CHECK(ta_start(words, 0, 4, 4, 4, TA_MAX_CAPACITY + 1) == TA_BAD_START);
     CHECK(ta_start(words, LENT, 4, 0, 4, 8) == TA_BAD_START);
     CHECK(ta_start(words, WORDS - 1, 4, 4, 4, 8) == TA_SLICE_SHORT);
@@ -485,14 +475,14 @@ static void rows_4_to_10(void)
     CHECK(is_answer(joint(5, 5), TA_NOT_HELD, 0));
     CHECK(is_answer(joint(1, 5), TA_NOT_HELD, 0));
     CHECK(is_answer(joint(1, 1), TA_SAME_NUMBER, 0));
-    check_untouched();
+    check_untouched(before);
 }
 
 static void rows_11_to_13(void)
 {
     insert_card(4);
     words[TA_TOTAL] = 20;
-    remember();
+    remember(before);
     CHECK(is_answer(audit(), TA_DONE, 0));
     CHECK(is_answer(reduce(5, 0), TA_ABOVE_COUNT, 0));
     check_log(0);
@@ -502,22 +492,22 @@ static void rows_11_to_13(void)
     check_log(0);
     CHECK(is_answer(reduce(4, 0), TA_MISCOUNT, 0));
     check_log(0);
-    check_untouched();
+    check_untouched(before);
 
     words[TA_TOTAL] = 0;
-    remember();
+    remember(before);
     CHECK(remove_trial(4) == TA_MISCOUNT);
-    check_untouched();
+    check_untouched(before);
     words[TA_TOTAL] = 64;
-    remember();
+    remember(before);
     CHECK(insert(5, 0, 0, 0) == TA_MISCOUNT);
-    check_untouched();
+    check_untouched(before);
 }
 
 static void rows_15_and_16(void)
 {
     insert_card(4);
-    remember();
+    remember(before);
     CHECK(is_answer(write_report(LENT, REPORT - 1), TA_OUTPUT_SHORT, 0));
     check_out(0);
     CHECK(is_load(load_first(LENT, 0), TA_CARD_FORM, 1, 0));
@@ -526,7 +516,7 @@ static void rows_15_and_16(void)
     CHECK(check_first(CARD - 1) == TA_CARD_FORM * 65536 + 5);
     CHECK(TA_CARD_REFUSAL(check_first(0)) == TA_CARD_FORM);
     CHECK(TA_CARD_LINE(check_first(0)) == 1);
-    check_untouched();
+    check_untouched(before);
 }
 
 /* ---- numbers as C passes them */
@@ -544,7 +534,7 @@ static void numbers_too_wide(void)
     size_t i;
 
     insert_card(4);
-    remember();
+    remember(before);
     for (axis = 0; axis < 3; axis++) {
         for (i = 0; i < LENGTH(wide); i++) {
             uint64_t at[3] = {1, 1, 1};
@@ -555,7 +545,7 @@ static void numbers_too_wide(void)
             CHECK(insert(1, at[0], at[1], at[2]) == TA_ABOVE_REFERENCE);
             CHECK(insert(7, at[0], at[1], at[2]) == TA_ABOVE_REFERENCE);
             CHECK(is_answer(gain(at[0], at[1], at[2]), TA_ABOVE_REFERENCE, 0));
-            check_untouched();
+            check_untouched(before);
         }
     }
 }
@@ -568,7 +558,7 @@ static void numbers_converted(void)
     double near_zero = -0.9;
 
     insert_card(4);
-    remember();
+    remember(before);
     CHECK(ta_start(words, LENT, negative, 4, 4, 8) == TA_BAD_START);
     CHECK(ta_start(words, LENT, 4, 4, 4, negative) == TA_BAD_START);
     CHECK(ta_insert(words, LENT, negative, 1, 1, 1) == TA_BAD_NUMBER);
@@ -579,7 +569,7 @@ static void numbers_converted(void)
     CHECK(ta_remove(words, LENT, negative) == TA_NOT_HELD);
     CHECK(is_answer(ta_joint(words, LENT, 1, negative), TA_NOT_HELD, 0));
     CHECK(is_answer(ta_reduce(words, LENT, negative, log_words, LOG), TA_ABOVE_COUNT, 0));
-    check_untouched();
+    check_untouched(before);
 
     CHECK(ta_insert(words, LENT, 7, fraction, near_zero, 3.0) == TA_DONE);
     CHECK(words[TA_RECORDS + 3 * TA_RECORD_WORDS] == 7);
