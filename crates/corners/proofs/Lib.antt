@@ -1,3 +1,2 @@
--- Passing: which corners count. UpdateLaws: the counts of the corners that count are those of one more point.
+-- Passing: which corners count.
 mod Passing
-mod UpdateLaws

@@ -99,7 +99,7 @@ counted-end {n} {p} {q} {axes} {axis} h l =
     omega arith
 
 -- No point is within on more axes than it has; where it is on all of them, it dominates.
-axes-most : (p q : List ℕ) → axes-within p q ≤ length p
+pub axes-most : (p q : List ℕ) → axes-within p q ≤ length p
 unfolding axes-within
 axes-most [] q = omega arith
 axes-most (x ∷ p) [] = omega arith

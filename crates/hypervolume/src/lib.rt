@@ -16,7 +16,7 @@ pub struct Point {
 }
 
 // The larger of two coordinates.
-fn larger(x: u32, y: u32) -> u32
+pub fn larger(x: u32, y: u32) -> u32
     ensures { λ r. ⌜ r ≡ max x y ⌝ }
 {
     if x < y { y } else { x }
