@@ -1,2 +1,5 @@
--- Passing: which corners count.
+-- Passing: which corners count. SpreadLaws: what numbers at places say of a list. UpdateLaws: the counts of the corners
+-- that count are those of one more point.
 mod Passing
+mod SpreadLaws
+mod UpdateLaws

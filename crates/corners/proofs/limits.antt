@@ -1,3 +1,3 @@
 -- Laws of the limits, and of the corners within them.
-mod LimitsLaws
+pub mod LimitsLaws
 pub mod CollectLaws

@@ -1,6 +1,9 @@
 // Which corners an update counts. A corner may be left out where two that stay are at most it on all axes, and on real
 // archives nearly all may: those beyond a limit on some axis.
-use hypervolume::{Point, larger, point_at, put_point};
+use hypervolume::Point;
+use hypervolume::larger;
+use hypervolume::point_at;
+use hypervolume::put_point;
 ghost use mathlib.Core.Path.{_≡_};
 ghost use Prim.Native.Nat.{_<_, min};
 ghost use lib.ListN.{length};

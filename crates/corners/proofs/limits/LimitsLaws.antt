@@ -162,7 +162,7 @@ two-least-more {passed} {u} {a} {least} {second} t n h made =
         (omega (arith, with-t (max least n), t-too (max least n) (omega arith) (omega arith), h .one (omega arith), raised-cover passed u a least (max least n) (omega arith)))
 
 -- The limits that they make.
-join-at : (p q : List ℕ) (a : ℕ) → getD (join p q) a 0 ≡ max (getD p a 0) (getD q a 0)
+pub join-at : (p q : List ℕ) (a : ℕ) → getD (join p q) a 0 ≡ max (getD p a 0) (getD q a 0)
 unfolding join
 join-at [] q a = omega arith
 join-at (x ∷ p) [] a = omega arith
