@@ -13,6 +13,7 @@ pub use header::put_header;
 pub use rows::Row;
 pub use rows::Shape;
 pub use rows::find;
+pub use rows::reference_of;
 pub use rows::row_at;
 pub use rows::search;
 pub use rows::shape_of;

@@ -1,8 +1,12 @@
 // Records and the header, read from the words.
+use hypervolume::Point;
 ghost use mathlib.Core.Path.{_≡_};
+ghost use mathlib.Core.Bool.{true};
 ghost use Prim.Native.Nat.{_+_, _*_, _≤_};
 ghost use lib.ListN.{length};
+ghost use Rattle.words.specs.Archive.{reference};
 ghost use Rattle.words.specs.Layout.{read-shape, word};
+ghost use Rattle.words.specs.Format.{shape-allowed, archive-rows};
 ghost use Rattle.words.specs.Places.{as-row, as-shape, row-at, Found};
 
 // A record by value: its trial number, its point and its kept contribution.
@@ -48,6 +52,22 @@ pub fn shape_of(w: &[u64]) -> Shape
         ry: w[3],
         rz: w[4],
     }
+}
+
+// The reference of an allowed shape, as a point.
+pub fn reference_point(s: Shape) -> Point
+    requires { ⌜ shape-allowed (as-shape s) ≡ true ⌝ }
+    ensures { λ r. ⌜ r .at ≡ reference (as-shape s) ⌝ }
+{
+    Point::new(s.rx, s.ry, s.rz)
+}
+
+// The reference of words that rows 1 to 3 let pass.
+pub fn reference_of(w: &[u64]) -> Point
+    requires { ⌜ archive-rows (now w) 0 ≡ 0 ⌝ }
+    ensures { λ r. ⌜ r .at ≡ reference (read-shape (now (w .entry))) ⌝ }
+{
+    reference_point(shape_of(w))
 }
 
 // The first of the first n records that has this number: its place, or n where none has.
