@@ -191,8 +191,3 @@ all-counted {w} {m} {xs} {ys} {zs} {r} before after answer c g e =
 -- Coordinates that are allowed are at most 1,048,576.
 pub allowed-small : (w : List ℕ) (t : Trial) → archive-rows w 0 ≡ 0 → coordinates-allowed (read w .shape) t ≡ true → Small (point t)
 allowed-small w t p e = coordinates-small (read w .shape) t (shape-bounds (read w .shape) (known w p .sound .shaped)) e
-
--- No coordinate of a held trial is above 1,048,576.
-pub held-small : (w : List ℕ) (i : ℕ) → archive-rows w 0 ≡ 0 → i < word w 0 → Small (point (row-at w i .trial))
-unfolding row-at
-held-small w i p l = coordinates-small (read-shape w) (row-at w i .trial) (passed w p .bounds) (passed-row w (passed w p) i l .coordinates)

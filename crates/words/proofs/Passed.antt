@@ -67,7 +67,7 @@ pub reference-small : (s : Shape) (r : List ℕ) → shape-allowed s ≡ true �
 reference-small s r e is axis = rw is (shape-bounds s e .reference-high axis)
 
 -- A point that dominates another is at most it, by the axis.
-dominates-axis : (p q : List ℕ) → length p ≤ length q → dominates p q ≡ true → (axis : ℕ) → getD p axis 0 ≤ getD q axis 0
+pub dominates-axis : (p q : List ℕ) → length p ≤ length q → dominates p q ≡ true → (axis : ℕ) → getD p axis 0 ≤ getD q axis 0
 unfolding dominates
 dominates-axis [] q l e axis = zero-le
 dominates-axis (x ∷ p) [] l e axis = absurd (let no : ⊥ = omega arith in no)

@@ -13,7 +13,7 @@ use Rattle.words.specs.Layout.{read}
 use Rattle.calls.specs.Calls.{box-of}
 use Rattle.calls.proofs.Known.{known}
 use Rattle.words.specs.Places.{as-row}
-use Rattle.ask.proofs.LoadedPoints.{held-small}
+use Rattle.words.proofs.Places.{held-small}
 use Rattle.ask.proofs.CountedAmounts.{front-of}
 use Rattle.removal.proofs.removing.Raising.{loss-counted, kept-counted, shares-counted, kept-each, joints-each, box-each, limit-fits, raised-over, raised-judged}
 use borrow.Author.Needs.{needs}
