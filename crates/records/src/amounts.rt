@@ -4,7 +4,7 @@ ghost use mathlib.Core.Bool.{not};
 ghost use Prim.Native.Nat.{_+_, _-_, _≤_};
 ghost use lib.Dec.{ltb, eqb};
 ghost use lib.ListN.{length};
-ghost use Rattle.records.specs.Amounts.{some-pair, Each, MovedUnless};
+ghost use Rattle.records.specs.Amounts.{some-pair, moved, Each, MovedUnless, Placed, amounts-at};
 
 // Whether some value differs from its amount.
 pub fn some_differs(values: &[u64], amounts: &[u64]) -> bool
@@ -52,6 +52,20 @@ pub fn raise(values: &mut [u64], amounts: &[u64], limit: u64) -> bool
         i += 1;
     }
     true
+}
+
+// Raises the values at these places by their counts.
+pub fn raise_values(values: &mut [u64], places: &[u16], counts: &[u64])
+    requires { ⌜ Placed (length (now values)) (now places) (now counts) ⌝ }
+    requires { ⌜ Each (now values) 1152921504606846976 × Each (now counts) 1152921504606846976 ⌝ }
+    ensures { λ _. ⌜ now (values .exit) ≡ moved (λ v m. v + m) (now (values .entry)) (amounts-at (length (now (values .entry))) (now (places .entry)) (now (counts .entry))) ⌝ }
+{
+    let mut k = 0;
+    while k < places.len() {
+        let p = places[k] as usize;
+        values[p] = values[p] + counts[k];
+        k += 1;
+    }
 }
 
 // What an update came to: the new or removed trial's counted amount, and whether every number stays from 0 to the box.

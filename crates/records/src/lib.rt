@@ -7,6 +7,7 @@ mod strides;
 pub use amounts::Moved;
 pub use amounts::lower;
 pub use amounts::raise;
+pub use amounts::raise_values;
 pub use amounts::some_differs;
 pub use places::enter;
 pub use places::least_place;
