@@ -65,26 +65,27 @@ judging-none {test} {vs} e h still =
     }
 
 module _ {test : ℕ → ℕ → Bool} {vs : List ℕ} {n : ℕ} {places counts : List ℕ} {k : ℕ} (h : Judging test vs n places counts k) where
-  pub judging-found : k < length places → test (getD vs (getD places k 0) 0) (getD counts k 0) ≡ true
+  pub judging-found : (v : ℕ) → v ≡ getD vs (getD places k 0) 0 → k < length places → test v (getD counts k 0) ≡ true
       → false ≡ not (some-pair test vs (amounts-at n places counts))
-  judging-found l t =
+  judging-found v e l t =
       let size : length vs ≡ n = h .size in
       let inside : getD places k 0 < n = h .placed .inside k l in
       let long : length (amounts-at n places counts) ≡ length vs = length-spread-zeros n places counts ∙ sym size in
       sym
       (ap not
       (some-pair-at test vs (amounts-at n places counts) (getD places k 0) long (omega arith)
-      (ap (test (getD vs (getD places k 0) 0)) (amount-at (h .placed) k l) ∙ t)))
+      (ap₂ test (sym e) (amount-at (h .placed) k l) ∙ t)))
 
-  pub judging-more : k < length places → test (getD vs (getD places k 0) 0) (getD counts k 0) ≡ false → Judging test vs n places counts (k + 1)
-  judging-more l t =
+  pub judging-more : (v : ℕ) → v ≡ getD vs (getD places k 0) 0 → k < length places → test v (getD counts k 0) ≡ false
+      → Judging test vs n places counts (k + 1)
+  judging-more v e l t =
       record {
         part = omega arith;
         size = h .size;
         placed = h .placed;
         none =
             ap (some-pair test vs) (first-more (h .placed) k l)
-            ∙ no-pair-set test vs (first-amounts n places counts k) (getD places k 0) (getD counts k 0) (h .none) t;
+            ∙ no-pair-set test vs (first-amounts n places counts k) (getD places k 0) (getD counts k 0) (h .none) (ap (λ x. test x (getD counts k 0)) (sym e) ∙ t);
       }
 
   pub judging-end : length places ≤ k → true ≡ not (some-pair test vs (amounts-at n places counts))
