@@ -90,9 +90,6 @@ left-fewer rows k =
     length-append (take k rows) (drop (suc k) rows) ∙ ap₂ _+_ (length-take k rows) (length-drop (suc k) rows) in
     omega arith
 
-pub reference-small : (s : Shape) → ShapeBounds s → Small (reference s)
-reference-small s h = h .reference-high
-
 -- What the sweep asks, of the records but one.
 pub columns-ready : (w out : List ℕ) (k : ℕ) → archive-rows w 0 ≡ 0 → k ≤ word w 0 → 512 ≤ length out → (R : List Row) → R ≡ leave-out k (rows-before w (word w 0)) → Ready (column 1 R) (column 2 R) (column 3 R) (reference (read-shape w)) out
 unfolding read
@@ -117,7 +114,7 @@ columns-ready w out k e l room R is =
       xs-small = column-small (read-shape w) R 0 (p .bounds) allowed (omega arith);
       ys-small = column-small (read-shape w) R 1 (p .bounds) allowed (omega arith);
       zs-small = column-small (read-shape w) R 2 (p .bounds) allowed (omega arith);
-      reference-small = reference-small (read-shape w) (p .bounds);
+      reference-small = p .bounds .reference-high;
       rising = column-rising R rising;
     }
 
@@ -145,8 +142,8 @@ pub record Columns (w : List ℕ) (k m : ℕ) (xs ys zs r : List ℕ) : Type 0 w
   pub points : PointsLoaded w k m xs ys zs
   pub under : r ≡ reference (read-shape w)
 
-pub columns : {w : List ℕ} {k m : ℕ} {xs ys zs r : List ℕ} (s : Shape) → PointsLoaded w k m xs ys zs → s ≡ read-shape w → r ≡ reference s → Columns w k m xs ys zs r
-columns s l es er = record { points = l; under = er ∙ ap reference es }
+pub columns : {w : List ℕ} {k m : ℕ} {xs ys zs r : List ℕ} → PointsLoaded w k m xs ys zs → r ≡ reference (read-shape w) → Columns w k m xs ys zs r
+columns l e = record { points = l; under = e }
 
 pub columns-are-ready : {w : List ℕ} {k m : ℕ} {xs ys zs r : List ℕ} (out : List ℕ) → Columns w k m xs ys zs r → archive-rows w 0 ≡ 0 → k ≤ word w 0 → 512 ≤ length out → Ready (take m xs) (take m ys) (take m zs) r out
 columns-are-ready {w} {k} out c e l room =
@@ -194,8 +191,3 @@ all-counted {w} {m} {xs} {ys} {zs} {r} before after answer c g e =
 -- Coordinates that are allowed are at most 1,048,576.
 pub allowed-small : (w : List ℕ) (t : Trial) → archive-rows w 0 ≡ 0 → coordinates-allowed (read w .shape) t ≡ true → Small (point t)
 allowed-small w t p e = coordinates-small (read w .shape) t (shape-bounds (read w .shape) (known w p .sound .shaped)) e
-
--- No coordinate of a held trial is above 1,048,576.
-pub held-small : (w : List ℕ) (i : ℕ) → archive-rows w 0 ≡ 0 → i < word w 0 → Small (point (row-at w i .trial))
-unfolding row-at
-held-small w i p l = coordinates-small (read-shape w) (row-at w i .trial) (passed w p .bounds) (passed-row w (passed w p) i l .coordinates)

@@ -2,26 +2,16 @@
 use hypervolume::Point;
 use records::load;
 use words::Row;
-use words::Shape;
-use words::shape_of;
+use words::reference_of;
 ghost use mathlib.Core.Path.{_≡_};
-ghost use mathlib.Core.Bool.{true};
 ghost use Prim.Native.Nat.{_≤_};
 ghost use lib.ListN.{length};
 ghost use Rattle.sweep.specs.Points.{Small};
-ghost use Rattle.words.specs.Archive.{reference, point};
+ghost use Rattle.words.specs.Archive.{point};
 ghost use Rattle.words.specs.Layout.{word};
-ghost use Rattle.words.specs.Format.{archive-rows, shape-allowed};
-ghost use Rattle.words.specs.Places.{as-row, as-shape};
+ghost use Rattle.words.specs.Format.{archive-rows};
+ghost use Rattle.words.specs.Places.{as-row};
 ghost use Rattle.ask.specs.RecordCounts.{PointsLoaded, CountedAll, CountedJoints};
-
-// The reference as a point.
-fn reference_of(s: Shape) -> Point
-    requires { ⌜ shape-allowed (as-shape s) ≡ true ⌝ }
-    ensures { λ r. ⌜ r .at ≡ reference (as-shape s) ⌝ }
-{
-    Point::new(s.rx, s.ry, s.rz)
-}
 
 // A record's point, whose coordinates are at most 1,048,576.
 pub fn point_of(row: Row) -> Point
@@ -52,7 +42,7 @@ pub fn count_all(w: &[u64], out: &mut [u64]) -> u64
     let mut ys = [0u64; 512];
     let mut zs = [0u64; 512];
     let m = load_points(w, w[0] as usize, &mut xs, &mut ys, &mut zs);
-    sweep::sweep(&xs[..m], &ys[..m], &zs[..m], reference_of(shape_of(w)), out)
+    sweep::sweep(&xs[..m], &ys[..m], &zs[..m], reference_of(w), out)
 }
 
 // The gain of p over the records but the one at place `skip` (over all where skip is the count), and in `out` its joint
@@ -65,12 +55,5 @@ pub fn count_joints(w: &[u64], skip: usize, p: Point, out: &mut [u64]) -> u64
     let mut ys = [0u64; 512];
     let mut zs = [0u64; 512];
     let m = load_points(w, skip, &mut xs, &mut ys, &mut zs);
-    corners::update(
-        &xs[..m],
-        &ys[..m],
-        &zs[..m],
-        p,
-        reference_of(shape_of(w)),
-        out,
-    )
+    corners::update(&xs[..m], &ys[..m], &zs[..m], p, reference_of(w), out)
 }

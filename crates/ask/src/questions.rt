@@ -13,6 +13,7 @@ use words::Row;
 use words::box_of;
 use words::coordinates_allowed;
 use words::find;
+use words::reference_of;
 use words::refusal;
 use words::row_at;
 use words::shape_of;
@@ -134,7 +135,7 @@ fn share_in(w: &[u64]) -> Answer
     requires { ⌜ archive-rows (now w) 0 ≡ 0 ⌝ }
     ensures { λ r. ⌜ r ≡ share (now (w .entry)) ⌝ }
 {
-    Answer::done(millionths(w[5], box_of(shape_of(w))))
+    Answer::done(millionths(w[5], box_of(reference_of(w))))
 }
 
 // Share: the kept total in millionths of the box, rounded down.

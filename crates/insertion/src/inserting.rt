@@ -11,6 +11,7 @@ use words::box_of;
 use words::coordinates_allowed;
 use words::find;
 use words::number_allowed;
+use words::reference_of;
 use words::refusal;
 use words::shape_of;
 ghost use mathlib.Core.Path.{_≡_};
@@ -57,7 +58,7 @@ fn lowered(w: &[u64], row: Row, kept: &mut [u64]) -> Moved
     let mut joints = [0u64; 512];
     let gain = count_joints(w, n, point_of(row), &mut joints);
     load(w, n, 4, n, kept);
-    if box_of(shape_of(w)) < w[5] + gain {
+    if box_of(reference_of(w)) < w[5] + gain {
         return Moved {
             amount: gain,
             fits: false,

@@ -67,6 +67,12 @@ unfolding column
 length-column k [] = refl
 length-column k (r ∷ rows) = ap suc (length-column k rows)
 
+pub column-at : (k : ℕ) (rows : List Row) (i : ℕ) (d : Row) → i < length rows → getD (column k rows) i 0 ≡ field-of k (getD rows i d)
+unfolding column
+column-at k [] i d l = absurd (let no′ : ⊥ = omega arith in no′)
+column-at k (r ∷ rows) zero d l = refl
+column-at k (r ∷ rows) (suc i) d l = column-at k rows i d (omega arith)
+
 -- A column of some of the records, from the words.
 pub column-front : (k m n : ℕ) (w : List ℕ) → k < 5 → m ≤ n → fifths m (drop (8 + k) w) ≡ column k (take m (read-rows n (drop 8 w)))
 column-front k m n w l h =

@@ -2,16 +2,18 @@
 use Prim.Native.Nat.{ℕ, zero, suc, _+_, _-_, _≤_, _<_, min}
 use mathlib.Core.Path.{_≡_, refl, ap, ap₂, _∙_}
 use mathlib.Core.List.{List, _∷_, _++_, append-nil, []}
+use native.Mathlib.Numerals.{add-one}
 use native.Mathlib.Omega.{arith}
+use lib.Dec.{ltb}
 use lib.ListN.{length, take, drop, getD, length-append, length-take, length-drop, drop-of-length-le}
 use lib.Seq.{take-all}
 use Rattle.words.specs.Archive.{Row, Trial, trials}
-use Rattle.records.specs.Columns.{leave-out}
-use mathlib.Core.Bool.{true, false, not}
+use Rattle.records.specs.Columns.{leave-out, place-but}
+use mathlib.Core.Bool.{Bool, true, false, not}
 use Rattle.slices.specs.Choices.{pick}
 use Rattle.calls.proofs.Members.{others-none}
 use Rattle.calls.specs.Calls.{row-of, others}
-use borrow.Author.Tests.{eq-eqb, ne-eqb, not-true}
+use borrow.Author.Tests.{ltb-true, ltb-false, eq-eqb, ne-eqb, not-true}
 use Rattle.slices.proofs.Choices.{both-true}
 use Rattle.words.specs.Format.{held, distinct}
 use Rattle.words.proofs.Held.{held-at}
@@ -27,6 +29,38 @@ unfolding leave-out
 length-leave-out k rows l =
     ap suc (length-append (take k rows) (drop (suc k) rows) ∙ ap₂ _+_ (length-take k rows) (length-drop (suc k) rows))
     ∙ (let e : suc (min k (length rows) + (length rows - suc k)) ≡ length rows = omega arith in e)
+
+-- What stands at a place once the record at place i is left out: before i as it was, from i on the next record.
+leave-before : (rows : List Row) (i k : ℕ) (d : Row) → k < i → getD (leave-out i rows) k d ≡ getD rows k d
+unfolding leave-out
+leave-before rows zero k d l = absurd (let no′ : ⊥ = omega arith in no′)
+leave-before [] (suc i) k d l = refl
+leave-before (r ∷ rows) (suc i) zero d l = refl
+leave-before (r ∷ rows) (suc i) (suc k) d l = leave-before rows i k d (omega arith)
+
+leave-behind : (rows : List Row) (i k : ℕ) (d : Row) → i ≤ k → getD (leave-out i rows) k d ≡ getD rows (suc k) d
+unfolding leave-out
+leave-behind [] zero k d l = refl
+leave-behind [] (suc i) k d l = refl
+leave-behind (r ∷ rows) zero k d l = refl
+leave-behind (r ∷ rows) (suc i) zero d l = absurd (let no′ : ⊥ = omega arith in no′)
+leave-behind (r ∷ rows) (suc i) (suc k) d l = leave-behind rows i k d (omega arith)
+
+pub leave-at : (rows : List Row) (i k : ℕ) (d : Row) → getD (leave-out i rows) k d ≡ getD rows (place-but i k) d
+unfolding place-but pick
+leave-at rows i k d = go (ltb k i) refl
+  where
+    go : (b : Bool) → ltb k i ≡ b → getD (leave-out i rows) k d ≡ getD rows (place-but i k) d
+    go true e = rw e (leave-before rows i k d (ltb-true k i e))
+    go false e = rw (e, add-one k) (leave-behind rows i k d (ltb-false k i e))
+
+pub place-but-below : (i k n : ℕ) → k < n - 1 → place-but i k < n
+unfolding place-but pick
+place-but-below i k n l = go (ltb k i)
+  where
+    go : (b : Bool) → pick b k (k + 1) < n
+    go true = omega arith
+    go false = omega arith
 
 -- A number that is held is no number that is not.
 apart : (m n : ℕ) (ts : List Trial) → held m ts ≡ false → held n ts ≡ true → m ≡ n → ⊥

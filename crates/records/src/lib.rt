@@ -5,9 +5,14 @@ mod places;
 mod strides;
 
 pub use amounts::Moved;
+pub use amounts::enough;
 pub use amounts::lower;
+pub use amounts::lower_at;
 pub use amounts::raise;
+pub use amounts::raise_at;
+pub use amounts::raise_values;
 pub use amounts::some_differs;
+pub use amounts::within;
 pub use places::enter;
 pub use places::least_place;
 pub use places::strike;

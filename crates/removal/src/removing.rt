@@ -9,9 +9,9 @@ use records::strike;
 use words::Row;
 use words::box_of;
 use words::find;
+use words::reference_of;
 use words::refusal;
 use words::row_at;
-use words::shape_of;
 ghost use mathlib.Core.Path.{_≡_};
 ghost use mathlib.Core.List.{_++_};
 ghost use Prim.Native.Nat.{_≤_, _<_};
@@ -41,7 +41,7 @@ fn raised(w: &[u64], k: usize, row: Row, kept: &mut [u64]) -> Moved
             fits: false,
         };
     }
-    let fits = raise(&mut kept[..m], &joints[..m], box_of(shape_of(w)));
+    let fits = raise(&mut kept[..m], &joints[..m], box_of(reference_of(w)));
     Moved { amount: loss, fits }
 }
 

@@ -1,14 +1,16 @@
 // Rows 1 to 3 of the table of refusals: what words must be to be read as an archive.
 use crate::rows::Row;
 use crate::rows::Shape;
+use crate::rows::reference_point;
 use crate::rows::row_at;
 use crate::rows::search;
 use crate::rows::shape_of;
+use hypervolume::Point;
 ghost use mathlib.Core.Path.{_≡_};
 ghost use mathlib.Core.Bool.{true, false};
-ghost use Prim.Native.Nat.{_+_, _-_, _*_, _≤_};
+ghost use Prim.Native.Nat.{ℕ, _+_, _-_, _*_, _≤_};
 ghost use lib.Dec.{ltb, eqb};
-ghost use lib.ListN.{length};
+ghost use lib.ListN.{length, getD};
 ghost use lib.Seq.{slice};
 ghost use Rattle.slices.specs.Choices.{both, either};
 ghost use Rattle.hypervolume.specs.Cells.{box};
@@ -58,12 +60,12 @@ pub fn coordinates_allowed(s: Shape, row: Row) -> bool
     both(row.x <= s.rx, both(row.y <= s.ry, row.z <= s.rz))
 }
 
-// The box, at most 2^60 cells.
-pub fn box_of(s: Shape) -> u64
-    requires { ⌜ shape-allowed (as-shape s) ≡ true ⌝ }
-    ensures { λ r. ⌜ r ≡ box (reference (as-shape s)) ⌝ }
+// The box, at most 2^60 cells: the origin dominates them all.
+pub fn box_of(reference: Point) -> u64
+    requires { ⌜ ((axis : ℕ) → getD (reference .at) axis 0 ≤ 1048576) ⌝ }
+    ensures { λ r. ⌜ r ≡ box (reference .at) ⌝ }
 {
-    s.rx * (s.ry * s.rz)
+    Point::new(0, 0, 0).edges(reference)
 }
 
 // Row 2. The ranges come first, so that the box fits a word.
@@ -75,7 +77,7 @@ fn header_allowed(w: &[u64]) -> bool
     if !shape_allowed(s) {
         return false;
     }
-    let cells = box_of(s);
+    let cells = box_of(reference_point(s));
     both(
         w[6] == 0,
         both(w[7] == 0, both(w[0] <= w[1], w[5] <= cells)),
@@ -160,7 +162,7 @@ fn rows_allowed(w: &[u64]) -> bool
     requires { ⌜ Headed (now w) ⌝ }
     ensures { λ r. ⌜ r ≡ sound-rows (read-shape (now (w .entry))) (read (now (w .entry)) .rows) ⌝ }
 {
-    let cells = box_of(shape_of(w));
+    let cells = box_of(reference_point(shape_of(w)));
     let n = w[0] as usize;
     let mut table = [0u64; 1024];
     let mut i: usize = 0;

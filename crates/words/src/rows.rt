@@ -1,16 +1,27 @@
 // Records and the header, read from the words.
+use hypervolume::Point;
 ghost use mathlib.Core.Path.{_≡_};
-ghost use Prim.Native.Nat.{_+_, _*_, _≤_};
+ghost use mathlib.Core.Bool.{true};
+ghost use Prim.Native.Nat.{_+_, _*_, _≤_, _<_};
 ghost use lib.ListN.{length};
+ghost use Rattle.words.specs.Archive.{reference};
 ghost use Rattle.words.specs.Layout.{read-shape, word};
-ghost use Rattle.words.specs.Places.{as-row, as-shape, row-at, Found};
+ghost use Rattle.words.specs.Format.{shape-allowed, archive-rows};
+ghost use Rattle.words.specs.Places.{as-row, as-record, as-shape, row-at, Found};
 
-// A record by value: its trial number, its point and its kept contribution.
+// Five words as a record, before rows 2 and 3 have judged them; also a number and a point as a caller gives them.
 pub struct Row {
     pub number: u64,
     pub x: u64,
     pub y: u64,
     pub z: u64,
+    pub kept: u64,
+}
+
+// A record that rows 2 and 3 have let pass: its trial number, its point and its kept contribution.
+pub struct Record {
+    pub number: u64,
+    pub point: Point,
     pub kept: u64,
 }
 
@@ -37,6 +48,19 @@ pub fn row_at(w: &[u64], i: usize) -> Row
     }
 }
 
+// The record at place i, in words that rows 1 to 3 let pass.
+pub fn record_at(w: &[u64], i: usize) -> Record
+    requires { ⌜ (archive-rows (now w) 0 ≡ 0) × (i < word (now w) 0) ⌝ }
+    ensures { λ r. ⌜ as-record r ≡ row-at (now (w .entry)) i ⌝ }
+{
+    let row = row_at(w, i);
+    Record {
+        number: row.number,
+        point: Point::new(row.x, row.y, row.z),
+        kept: row.kept,
+    }
+}
+
 // The capacity and the reference that the header holds.
 pub fn shape_of(w: &[u64]) -> Shape
     requires { ⌜ 8 ≤ length (now w) ⌝ }
@@ -48,6 +72,22 @@ pub fn shape_of(w: &[u64]) -> Shape
         ry: w[3],
         rz: w[4],
     }
+}
+
+// The reference of an allowed shape, as a point.
+pub fn reference_point(s: Shape) -> Point
+    requires { ⌜ shape-allowed (as-shape s) ≡ true ⌝ }
+    ensures { λ r. ⌜ r .at ≡ reference (as-shape s) ⌝ }
+{
+    Point::new(s.rx, s.ry, s.rz)
+}
+
+// The reference of words that rows 1 to 3 let pass.
+pub fn reference_of(w: &[u64]) -> Point
+    requires { ⌜ archive-rows (now w) 0 ≡ 0 ⌝ }
+    ensures { λ r. ⌜ r .at ≡ reference (read-shape (now (w .entry))) ⌝ }
+{
+    reference_point(shape_of(w))
 }
 
 // The first of the first n records that has this number: its place, or n where none has.

@@ -77,7 +77,7 @@ keep-next w vs i l room =
     ∙ ap (λ k. records (rekept (read-rows i w) vs) ++ (record-words (with-kept row (getD vs k 0)) ++ [])) size
     ∙ ap (λ k. records (rekept (read-rows i w) vs) ++ k) (append-nil (record-words (with-kept row (getD vs i 0))) ∙ record-words-kept (drop (5 * i) w) (getD vs i 0) (omega arith)))
 
-length-rekept : (rows : List Row) (vs : List ℕ) → length (rekept rows vs) ≡ length rows
+pub length-rekept : (rows : List Row) (vs : List ℕ) → length (rekept rows vs) ≡ length rows
 unfolding rekept
 length-rekept [] vs = refl
 length-rekept (r ∷ rows) [] = refl

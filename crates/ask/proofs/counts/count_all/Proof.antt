@@ -3,7 +3,6 @@ use mathlib.Core.Path.{ap, sym, _∙_}
 use native.Mathlib.Nat.{le-refl}
 use native.Mathlib.Omega.{arith}
 use lib.Seq.{length-take-le}
-use Rattle.words.specs.Format.{shape-allowed}
 use Rattle.calls.proofs.Known.{known}
 use Rattle.ask.proofs.LoadedPoints.{columns, columns-are-ready, all-counted}
 use borrow.Author.Needs.{needs}
@@ -43,23 +42,20 @@ array-share-prefix-zs c = search needs
 slice-aggregate-sweep-3 : tie.Need-slice-aggregate-sweep-3
 slice-aggregate-sweep-3 c = sym (length-take-le _ _ (omega (arith, c .before .before .before .before .before .before .load-points .ensures .few)))
 
-shape-of-requires : tie.Need-shape-of-requires
-shape-of-requires c κs = omega (arith, known (c .before .before .before .before .before .before .before .before .before .before .before .before .before .args .w .now) (c .before .before .before .before .before .before .before .before .before .before .before .before .before .pre .0))
-
 reference-of-requires : tie.Need-reference-of-requires
-reference-of-requires c κs = ap shape-allowed (c .shape-of .ensures) ∙ known (c .before .before .before .before .before .before .before .before .before .before .before .before .before .before .args .w .now) (c .before .before .before .before .before .before .before .before .before .before .before .before .before .before .pre .0) .shaped
+reference-of-requires c κs = c .before .before .before .before .before .before .before .before .before .before .before .before .before .pre .0
 
 sweep-requires : tie.Need-sweep-requires
 sweep-requires c κs =
-    columns-are-ready _ (columns _ (c .before .before .before .before .before .before .before .before .before .load-points .ensures) (c .before .before .shape-of .ensures) (c .before .reference-of .ensures))
-    (c .before .before .before .before .before .before .before .before .before .before .before .before .before .before .before .before .pre .0) (le-refl _) (c .before .before .before .before .before .before .before .before .before .before .before .before .before .before .before .before .pre .1)
+    columns-are-ready _ (columns (c .before .before .before .before .before .before .before .before .load-points .ensures) (c .before .reference-of .ensures))
+    (c .before .before .before .before .before .before .before .before .before .before .before .before .before .before .before .pre .0) (le-refl _) (c .before .before .before .before .before .before .before .before .before .before .before .before .before .before .before .pre .1)
 
 same-length : tie.Need-same-length
 same-length c = search needs
 
 returns : tie.Need-returns
 returns c =
-    all-counted _ _ _ (columns _ (c .before .before .before .before .before .before .before .before .before .before .before .before .load-points .ensures) (c .before .before .before .before .before .shape-of .ensures) (c .before .before .before .before .reference-of .ensures))
+    all-counted _ _ _ (columns (c .before .before .before .before .before .before .before .before .before .before .before .load-points .ensures) (c .before .before .before .before .reference-of .ensures))
     (c .before .before .sweep .ensures .0) (c .before .before .sweep .ensures .1)
 
 pub count-all-spec : {M : Type 1} → statement M
@@ -77,7 +73,6 @@ count-all-spec =
     slice-aggregate-sweep-2
     array-share-prefix-zs
     slice-aggregate-sweep-3
-    shape-of-requires
     reference-of-requires
     sweep-requires
     same-length

@@ -2,7 +2,6 @@
 use mathlib.Core.Path.{ap, sym, _∙_}
 use native.Mathlib.Omega.{arith}
 use lib.Seq.{length-take-le}
-use Rattle.words.specs.Format.{shape-allowed}
 use Rattle.calls.proofs.Known.{known}
 use Rattle.ask.proofs.LoadedPoints.{columns, columns-are-ready, joints-counted}
 use borrow.Author.Needs.{needs}
@@ -39,23 +38,20 @@ array-share-prefix-zs c = search needs
 slice-aggregate-update-3 : tie.Need-slice-aggregate-update-3
 slice-aggregate-update-3 c = sym (length-take-le _ _ (omega (arith, c .before .before .before .before .before .before .load-points .ensures .few)))
 
-shape-of-requires : tie.Need-shape-of-requires
-shape-of-requires c κs = omega (arith, known (c .before .before .before .before .before .before .before .before .before .before .before .before .args .w .now) (c .before .before .before .before .before .before .before .before .before .before .before .before .pre .0))
-
 reference-of-requires : tie.Need-reference-of-requires
-reference-of-requires c κs = ap shape-allowed (c .shape-of .ensures) ∙ known (c .before .before .before .before .before .before .before .before .before .before .before .before .before .args .w .now) (c .before .before .before .before .before .before .before .before .before .before .before .before .before .pre .0) .shaped
+reference-of-requires c κs = c .before .before .before .before .before .before .before .before .before .before .before .before .pre .0
 
 update-requires : tie.Need-update-requires
 update-requires c κs =
-    let start = c .before .before .before .before .before .before .before .before .before .before .before .before .before .before .before in
-    (columns-are-ready _ (columns _ (c .before .before .before .before .before .before .before .before .before .load-points .ensures) (c .before .before .shape-of .ensures) (c .before .reference-of .ensures)) (start .pre .0) (start .pre .1) (start .pre .2), start .pre .3)
+    let start = c .before .before .before .before .before .before .before .before .before .before .before .before .before .before in
+    (columns-are-ready _ (columns (c .before .before .before .before .before .before .before .before .load-points .ensures) (c .before .reference-of .ensures)) (start .pre .0) (start .pre .1) (start .pre .2), start .pre .3)
 
 same-length : tie.Need-same-length
 same-length c = search needs
 
 returns : tie.Need-returns
 returns c =
-    joints-counted _ _ _ _ (columns _ (c .before .before .before .before .before .before .before .before .before .before .before .before .load-points .ensures) (c .before .before .before .before .before .shape-of .ensures) (c .before .before .before .before .reference-of .ensures))
+    joints-counted _ _ _ _ (columns (c .before .before .before .before .before .before .before .before .before .before .before .load-points .ensures) (c .before .before .before .before .reference-of .ensures))
     (c .before .before .update .ensures .0) (c .before .before .update .ensures .1)
 
 pub count-joints-spec : {M : Type 1} → statement M
@@ -72,7 +68,6 @@ count-joints-spec =
     slice-aggregate-update-2
     array-share-prefix-zs
     slice-aggregate-update-3
-    shape-of-requires
     reference-of-requires
     update-requires
     same-length

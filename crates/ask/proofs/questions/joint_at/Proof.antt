@@ -5,7 +5,7 @@ use borrow.Author.Needs.{needs}
 use Rattle.sweep.specs.Points.{Small}
 use Rattle.words.specs.Archive.{point}
 use Rattle.calls.proofs.Known.{known}
-use Rattle.ask.proofs.LoadedPoints.{held-small}
+use Rattle.words.proofs.Places.{held-small}
 use Rattle.ask.proofs.questions.Joints.{joint-behind, joint-before}
 use Rattle.ask.proofs.questions.joint_at.Statement.{statement}
 use Rattle.ask.proofs.questions.joint_at.Tie as tie

@@ -5,9 +5,8 @@ use native.Mathlib.Omega.{arith}
 use lib.ListN.{getD}
 use lib.Seq.{length-take-le}
 use Rattle.hypervolume.specs.Cells.{box}
-use Rattle.words.specs.Archive.{reference}
 use Rattle.words.specs.Layout.{read}
-use Rattle.words.specs.Format.{shape-allowed}
+use Rattle.words.proofs.Passed.{reference-small}
 use Rattle.words.specs.Places.{as-row}
 use Rattle.calls.specs.Calls.{box-of}
 use Rattle.calls.proofs.Known.{known}
@@ -20,7 +19,7 @@ use Rattle.insertion.proofs.inserting.lowered.Tie as tie
 
 boxed : (c : tie.After-box-of) → c .box-of .result ≡ box-of (read (c .before .before .before .before .before .before .before .before .before .before .before .before .before .args .w .now))
 unfolding read
-boxed c = c .box-of .ensures ∙ ap (λ s. box (reference s)) (c .before .shape-of .ensures)
+boxed c = c .box-of .ensures ∙ ap box (c .before .reference-of .ensures)
 
 shared-slice-read-n : tie.Need-shared-slice-read-n
 shared-slice-read-n c = omega (arith, known (c .before .before .before .args .w .now) (c .before .before .before .pre .0))
@@ -37,11 +36,11 @@ count-joints-requires c κs = (c .before .before .before .before .before .pre .0
 load-requires : tie.Need-load-requires
 load-requires c κs = omega (arith, known (c .before .before .before .before .before .before .before .before .args .w .now) (c .before .before .before .before .before .before .before .before .pre .0), c .before .before .before .before .before .before .before .before .pre .2)
 
-shape-of-requires : tie.Need-shape-of-requires
-shape-of-requires c κs = omega (arith, known (c .before .before .before .before .before .before .before .before .before .before .before .args .w .now) (c .before .before .before .before .before .before .before .before .before .before .before .pre .0))
+reference-of-requires : tie.Need-reference-of-requires
+reference-of-requires c κs = c .before .before .before .before .before .before .before .before .before .before .before .pre .0
 
 box-of-requires : tie.Need-box-of-requires
-box-of-requires c κs = ap shape-allowed (c .shape-of .ensures) ∙ known (c .before .before .before .before .before .before .before .before .before .before .before .before .args .w .now) (c .before .before .before .before .before .before .before .before .before .before .before .before .pre .0) .shaped
+box-of-requires c κs = reference-small _ _ (known (c .before .before .before .before .before .before .before .before .before .before .before .before .args .w .now) (c .before .before .before .before .before .before .before .before .before .before .before .before .pre .0) .shaped) (c .reference-of .ensures)
 
 shared-slice-read-if1 : tie.Need-shared-slice-read-if1
 shared-slice-read-if1 c = omega (arith, known (c .before .before .before .before .before .before .before .before .before .before .before .before .before .before .args .w .now) (c .before .before .before .before .before .before .before .before .before .before .before .before .before .before .pre .0))
@@ -103,7 +102,7 @@ lowered-spec =
     slice-aggregate-count-joints
     count-joints-requires
     load-requires
-    shape-of-requires
+    reference-of-requires
     box-of-requires
     shared-slice-read-if1
     add-if1

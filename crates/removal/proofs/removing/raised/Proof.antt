@@ -7,13 +7,13 @@ use lib.ListN.{getD}
 use lib.Seq.{length-take-le}
 use Rattle.hypervolume.specs.Cells.{box}
 use Rattle.sweep.specs.Points.{Small}
-use Rattle.words.specs.Archive.{Row, point, reference}
-use Rattle.words.specs.Format.{shape-allowed}
+use Rattle.words.specs.Archive.{Row, point}
+use Rattle.words.proofs.Passed.{reference-small}
 use Rattle.words.specs.Layout.{read}
 use Rattle.calls.specs.Calls.{box-of}
 use Rattle.calls.proofs.Known.{known}
 use Rattle.words.specs.Places.{as-row}
-use Rattle.ask.proofs.LoadedPoints.{held-small}
+use Rattle.words.proofs.Places.{held-small}
 use Rattle.ask.proofs.CountedAmounts.{front-of}
 use Rattle.removal.proofs.removing.Raising.{loss-counted, kept-counted, shares-counted, kept-each, joints-each, box-each, limit-fits, raised-over, raised-judged}
 use borrow.Author.Needs.{needs}
@@ -26,7 +26,7 @@ held-point c = subst (λ (r : Row). Small (point (r .trial))) (sym (c .pre .2)) 
 
 boxed : (c : tie.After-box-of) → c .box-of .result ≡ box-of (read (c .before .before .before .before .before .before .before .before .before .before .before .before .before .before .before .before .before .args .w .now))
 unfolding read
-boxed c = c .box-of .ensures ∙ ap (λ s. box (reference s)) (c .before .shape-of .ensures)
+boxed c = c .box-of .ensures ∙ ap box (c .before .reference-of .ensures)
 
 shared-slice-read-n : tie.Need-shared-slice-read-n
 shared-slice-read-n c = omega (arith, known (c .before .before .before .args .w .now) (c .before .before .before .pre .0))
@@ -69,11 +69,11 @@ array-share-prefix-joints c = omega (arith, c .before .before .before .before .b
 slice-aggregate-raise-2 : tie.Need-slice-aggregate-raise-2
 slice-aggregate-raise-2 c = sym (length-take-le _ _ (omega (arith, c .before .before .before .before .before .before .before .before .before .count-joints .kept, known (c .before .before .before .before .before .before .before .before .before .before .before .before .before .before .before .args .w .now) (c .before .before .before .before .before .before .before .before .before .before .before .before .before .before .before .pre .0))))
 
-shape-of-requires : tie.Need-shape-of-requires
-shape-of-requires c κs = omega (arith, known (c .before .before .before .before .before .before .before .before .before .before .before .before .before .before .before .args .w .now) (c .before .before .before .before .before .before .before .before .before .before .before .before .before .before .before .pre .0))
+reference-of-requires : tie.Need-reference-of-requires
+reference-of-requires c κs = c .before .before .before .before .before .before .before .before .before .before .before .before .before .before .before .pre .0
 
 box-of-requires : tie.Need-box-of-requires
-box-of-requires c κs = ap shape-allowed (c .shape-of .ensures) ∙ known (c .before .before .before .before .before .before .before .before .before .before .before .before .before .before .before .before .args .w .now) (c .before .before .before .before .before .before .before .before .before .before .before .before .before .before .before .before .pre .0) .shaped
+box-of-requires c κs = reference-small _ _ (known (c .before .before .before .before .before .before .before .before .before .before .before .before .before .before .before .before .args .w .now) (c .before .before .before .before .before .before .before .before .before .before .before .before .before .before .before .before .pre .0) .shaped) (c .reference-of .ensures)
 
 raise-requires : tie.Need-raise-requires
 raise-requires c κs =
@@ -119,7 +119,7 @@ raised-spec =
     slice-aggregate-raise
     array-share-prefix-joints
     slice-aggregate-raise-2
-    shape-of-requires
+    reference-of-requires
     box-of-requires
     raise-requires
     same-length-2
