@@ -11,14 +11,14 @@ ghost use Rattle.words.specs.Places.{rows-before};
 ghost use Rattle.records.specs.Columns.{column, leave-out, place-but, rekept};
 ghost use Rattle.records.specs.Amounts.{some-pair, moved, Each, MovedUnless, Placed, amounts-at};
 
-// Whether some value differs from its amount.
-pub fn some_differs(values: &[u64], amounts: &[u64]) -> bool
-    requires { ⌜ length (now amounts) ≡ length (now values) ⌝ }
-    ensures { λ r. ⌜ r ≡ some-pair (λ v m. not (eqb v m)) (now (values .entry)) (now (amounts .entry)) ⌝ }
+// Whether a contribution of the first records differs from its count.
+pub fn some_differs(w: &[u64], counts: &[u64]) -> bool
+    requires { ⌜ 8 + 5 * length (now counts) ≤ length (now w) ⌝ }
+    ensures { λ r. ⌜ r ≡ some-pair (λ v m. not (eqb v m)) (column 4 (rows-before (now (w .entry)) (length (now (counts .entry))))) (now (counts .entry)) ⌝ }
 {
     let mut i = 0;
-    while i < values.len() {
-        if values[i] != amounts[i] {
+    while i < counts.len() {
+        if w[12 + 5 * i] != counts[i] {
             return true;
         }
         i += 1;

@@ -6,6 +6,8 @@ use mathlib.Core.List.{List, _++_, append-nil}
 use native.Mathlib.Nat.{zero-add}
 use native.Mathlib.Numerals.{add-one}
 use native.Mathlib.Omega.{arith}
+use lib.Dec.{eqb}
+use borrow.Author.Tests.{eq-eqb, ne-eqb}
 use lib.ListN.{length, drop, set, getD, drop-of-length-le}
 use lib.Seq.{drop-cons, drop-length}
 use Rattle.slices.specs.Choices.{either}
@@ -45,6 +47,14 @@ module _ {test : ℕ → ℕ → Bool} {vs ms : List ℕ} {i : ℕ} (h : Seeking
   pub seeking-end : length vs ≤ i → false ≡ some-pair test vs ms
   unfolding some-pair
   seeking-end l = sym (h .left ∙ rw (drop-of-length-le vs l))
+
+-- The same for pairs that differ, where the value was read elsewhere.
+module _ {vs ms : List ℕ} {i : ℕ} (h : Seeking (λ v m. not (eqb v m)) vs ms i) (l : i < length ms) {v : ℕ} (e : v ≡ getD vs i 0) where
+  pub differing-found : (v ≡ getD ms i 0 → ⊥) → true ≡ some-pair (λ v m. not (eqb v m)) vs ms
+  differing-found other = seeking-found h (omega (arith, h .pairs)) (rw (← e) (ap not (ne-eqb v (getD ms i 0) other)))
+
+  pub differing-more : v ≡ getD ms i 0 → Seeking (λ v m. not (eqb v m)) vs ms (i + 1)
+  differing-more same = seeking-more h (omega (arith, h .pairs)) (rw (← e) (ap not (eq-eqb v (getD ms i 0) same)))
 
 -- Besides, i values are moved.
 pub record Moving (test : ℕ → ℕ → Bool) (op : ℕ → ℕ → ℕ) (vs ms now : List ℕ) (i : ℕ) : Type 0 where
