@@ -3,4 +3,5 @@ pub mod Columns
 pub mod MovedAmounts
 pub mod LeaveOut
 pub mod RowAt
+pub mod HeldPoints
 pub mod Stored

@@ -18,3 +18,4 @@ pub use places::least_place;
 pub use places::strike;
 pub use strides::keep;
 pub use strides::load;
+pub use strides::load_points;
