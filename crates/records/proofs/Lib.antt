@@ -2,6 +2,7 @@
 pub mod Columns
 pub mod MovedAmounts
 pub mod LeaveOut
+pub mod Ranks
 pub mod RowAt
 pub mod HeldPoints
 pub mod Stored

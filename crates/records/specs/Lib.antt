@@ -2,3 +2,4 @@
 pub mod Columns
 pub mod Amounts
 pub mod Loaded
+pub mod Ranks

@@ -3,7 +3,7 @@ mod check;
 mod header;
 mod rows;
 
-pub use check::before;
+pub use check::ascends;
 pub use check::box_of;
 pub use check::coordinates_allowed;
 pub use check::number_allowed;
