@@ -2,9 +2,9 @@
 // at the places of those that are not 0.
 ghost use mathlib.Core.Path.{_≡_};
 ghost use mathlib.Core.Bool.{false, not};
-ghost use Prim.Native.Nat.{_+_, _-_, _*_, _≤_, _<_};
+ghost use Prim.Native.Nat.{ℕ, _+_, _-_, _*_, _≤_, _<_};
 ghost use lib.Dec.{ltb, eqb};
-ghost use lib.ListN.{length};
+ghost use lib.ListN.{length, getD};
 ghost use Rattle.slices.specs.Put.{put};
 ghost use Rattle.words.specs.Layout.{records};
 ghost use Rattle.words.specs.Places.{rows-before};
@@ -141,6 +141,21 @@ pub fn raise_values(values: &mut [u64], places: &[u16], counts: &[u64])
         values[p] = values[p] + counts[k];
         k += 1;
     }
+}
+
+// The amount at a place, of those that these places and counts say.
+pub fn amount_at(places: &[u16], counts: &[u64], place: usize) -> u64
+    requires { ⌜ length (now counts) ≡ length (now places) ⌝ }
+    ensures { λ r. ⌜ ((n : ℕ) → Placed n (now (places .entry)) (now (counts .entry)) → r ≡ getD (amounts-at n (now (places .entry)) (now (counts .entry))) place 0) ⌝ }
+{
+    let mut k = 0;
+    while k < places.len() {
+        if places[k] as usize == place {
+            return counts[k];
+        }
+        k += 1;
+    }
+    0
 }
 
 // What an update came to: the new or removed trial's counted amount, and whether every number stays from 0 to the box.

@@ -5,6 +5,7 @@ mod places;
 mod strides;
 
 pub use amounts::Moved;
+pub use amounts::amount_at;
 pub use amounts::enough;
 pub use amounts::lower;
 pub use amounts::lower_at;

@@ -9,7 +9,8 @@ use native.Mathlib.Omega.{arith}
 use lib.ListN.{length, take, set, getD, replicate, length-set, length-replicate}
 use lib.Seq.{take-length, length-take-le, getD-take}
 use Rattle.slices.specs.Spread.{spread, Sparse}
-use Rattle.slices.proofs.Spread.{length-spread-zeros, spread-more, spread-at, spread-before, zeros-at}
+use native.Mathlib.Decide.{decLt}
+use Rattle.slices.proofs.Spread.{length-spread-zeros, spread-more, spread-other, spread-at, spread-before, zeros-at}
 use Rattle.records.specs.Amounts.{moved, some-pair, Placed, amounts-at}
 use Rattle.records.proofs.MovedAmounts.{length-moved, moved-at, moved-set, moved-zeros, some-pair-at, no-pair-at, no-pair-set, no-pair-zeros}
 
@@ -170,3 +171,26 @@ sparse-placed {n} {all} {places} {numbers} {m} h l₁ l₂ =
           rw (getD-take m places k 0 (let s : k < m = omega arith in s), getD-take m places (suc k) 0 (let s : suc k < m = omega arith in s))
           (h .rising k (omega arith));
     }
+
+-- The search for a place: it is none of the first k.
+pub record Missed (places : List ℕ) (place k : ℕ) : Type 0 where
+  pub part : k ≤ length places
+  pub apart : (j : ℕ) → j < k → place ≡ getD places j 0 → ⊥
+
+pub missed-none : {places : List ℕ} {place : ℕ} → Missed places place 0
+missed-none = record { part = omega arith; apart = λ j l e. omega arith }
+
+pub missed-more : {places : List ℕ} {place k : ℕ} → Missed places place k → k < length places → (getD places k 0 ≡ place → ⊥) → Missed places place (k + 1)
+missed-more {places} {place} {k} h l other =
+    record { part = omega arith; apart = λ j m e. go j (decLt j k) m e }
+  where
+    go : (j : ℕ) → Dec (j < k) → j < k + 1 → place ≡ getD places j 0 → ⊥
+    go j (yes a) m e = h .apart j a e
+    go j (no a) m e = other (ap (λ i. getD places i 0) (let last : k ≡ j = omega arith in last) ∙ sym e)
+
+pub missed-found : {places : List ℕ} {place k n v : ℕ} {counts : List ℕ} → k < length places → getD places k 0 ≡ place → v ≡ getD counts k 0 → Placed n places counts → v ≡ getD (amounts-at n places counts) place 0
+missed-found {places} {place} {k} {n} {v} {counts} l here e h = e ∙ sym (amount-at h k l) ∙ ap (λ i. getD (amounts-at n places counts) i 0) here
+
+pub missed-end : {places : List ℕ} {place k n : ℕ} {counts : List ℕ} → Missed places place k → length places ≤ k → Placed n places counts → _≡_ {A = ℕ} 0 (getD (amounts-at n places counts) place 0)
+missed-end {places} {place} {k} {n} {counts} h end g =
+    sym (spread-other (replicate n 0) places counts place (λ j l. h .apart j (omega arith)) ∙ zeros-at n place)
