@@ -1,25 +1,14 @@
 // Counted amounts of the records that the words hold: one call of the sweep each.
 use hypervolume::Point;
 use records::load;
-use words::Row;
 use words::reference_of;
 ghost use mathlib.Core.Path.{_≡_};
 ghost use Prim.Native.Nat.{_≤_};
 ghost use lib.ListN.{length};
 ghost use Rattle.sweep.specs.Points.{Small};
-ghost use Rattle.words.specs.Archive.{point};
 ghost use Rattle.words.specs.Layout.{word};
 ghost use Rattle.words.specs.Format.{archive-rows};
-ghost use Rattle.words.specs.Places.{as-row};
 ghost use Rattle.ask.specs.RecordCounts.{PointsLoaded, CountedAll, CountedJoints};
-
-// A record's point, whose coordinates are at most 1,048,576.
-pub fn point_of(row: Row) -> Point
-    requires { ⌜ Small (point (as-row row .trial)) ⌝ }
-    ensures { λ r. ⌜ r .at ≡ point (as-row row .trial) ⌝ }
-{
-    Point::new(row.x, row.y, row.z)
-}
 
 // The coordinates of the records but the one at place `skip` (of all where skip is the count), a slice for each axis.
 // Answers how many.

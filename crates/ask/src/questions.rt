@@ -2,10 +2,10 @@
 // rows 1 to 3 let pass.
 use crate::counts::count_all;
 use crate::counts::count_joints;
-use crate::counts::point_of;
 use crate::division::millionths;
 use calls::Answer;
 use calls::LeastAnswer;
+use hypervolume::Point;
 use records::least_place;
 use records::load;
 use records::some_differs;
@@ -13,9 +13,9 @@ use words::Row;
 use words::box_of;
 use words::coordinates_allowed;
 use words::find;
+use words::record_at;
 use words::reference_of;
 use words::refusal;
-use words::row_at;
 use words::shape_of;
 ghost use mathlib.Core.Path.{_≡_};
 ghost use Prim.Native.Nat.{_<_};
@@ -34,11 +34,11 @@ fn least_in(w: &[u64]) -> LeastAnswer
     if n == 0 {
         return LeastAnswer::refused(14);
     }
-    let row = row_at(w, least_place(w, n));
+    let least = record_at(w, least_place(w, n));
     LeastAnswer {
         refusal: 0,
-        number: row.number,
-        contribution: row.kept,
+        number: least.number,
+        contribution: least.kept,
     }
 }
 
@@ -60,7 +60,7 @@ fn joint_at(w: &[u64], i: usize, k: usize) -> u64
     ensures { λ r. ⌜ r ≡ joint-of (read (now (w .entry))) (row-at (now (w .entry)) i .trial .number) (row-at (now (w .entry)) k .trial .number) ⌝ }
 {
     let mut joints = [0u64; 512];
-    count_joints(w, i, point_of(row_at(w, i)), &mut joints);
+    count_joints(w, i, record_at(w, i).point, &mut joints);
     if i < k {
         return joints[k - 1];
     }
@@ -108,7 +108,8 @@ fn gain_in(w: &[u64], row: Row) -> Answer
     }
     let mut joints = [0u64; 512];
     let n = w[0] as usize;
-    Answer::done(count_joints(w, n, point_of(row), &mut joints))
+    let p = Point::new(row.x, row.y, row.z);
+    Answer::done(count_joints(w, n, p, &mut joints))
 }
 
 // Gain (point): cells that it dominates and no trial does.

@@ -2,5 +2,6 @@
 pub mod Columns
 pub mod MovedAmounts
 pub mod LeaveOut
+pub mod Ranks
 pub mod RowAt
 pub mod Stored

@@ -1,5 +1,5 @@
-// Records in an archive's words: found by their place, enter-leaves and strike-leaves out; one field of all of them; contributions moved
-// by amounts.
+// Records in an archive's words: found by their place, entered and struck out; one field of all of them; contributions
+// moved by amounts.
 mod amounts;
 mod places;
 mod strides;
@@ -8,8 +8,9 @@ pub use amounts::Moved;
 pub use amounts::lower;
 pub use amounts::raise;
 pub use amounts::some_differs;
-pub use places::enter;
+pub use places::enter_at;
 pub use places::least_place;
+pub use places::rank;
 pub use places::strike;
 pub use strides::keep;
 pub use strides::load;

@@ -1,17 +1,15 @@
 // Remove: rows 9 and 13, then the record struck out and every other contribution moved by the counted amount.
 use ask::count_joints;
-use ask::point_of;
 use records::Moved;
 use records::keep;
 use records::load;
 use records::raise;
 use records::strike;
-use words::Row;
 use words::box_of;
 use words::find;
+use words::record_at;
 use words::reference_of;
 use words::refusal;
-use words::row_at;
 ghost use mathlib.Core.Path.{_≡_};
 ghost use mathlib.Core.List.{_++_};
 ghost use Prim.Native.Nat.{_≤_, _<_};
@@ -19,20 +17,19 @@ ghost use lib.ListN.{length};
 ghost use Rattle.slices.specs.Choices.{pick};
 ghost use Rattle.words.specs.Layout.{word, layout, read, behind};
 ghost use Rattle.words.specs.Format.{guard, archive-rows};
-ghost use Rattle.words.specs.Places.{as-row, row-at};
 ghost use Rattle.calls.specs.Calls.{remove-overruns, removed};
 ghost use Rattle.calls.specs.Lent.{remove};
 ghost use Rattle.removal.specs.Removing.{number-at, RemoveAmounts, RemoveReady};
 
 // The loss of the trial at place k and, in `kept`, each other contribution with its joint count, where these stay from 0
 // to the box (row 13).
-fn raised(w: &[u64], k: usize, row: Row, kept: &mut [u64]) -> Moved
-    requires { ⌜ (archive-rows (now w) 0 ≡ 0) × (k < word (now w) 0) × (as-row row ≡ row-at (now w) k) × (512 ≤ length (now kept)) ⌝ }
+fn raised(w: &[u64], k: usize, kept: &mut [u64]) -> Moved
+    requires { ⌜ (archive-rows (now w) 0 ≡ 0) × (k < word (now w) 0) × (512 ≤ length (now kept)) ⌝ }
     ensures { λ r. ⌜ RemoveAmounts (now (w .entry)) k (now (kept .exit)) r ⌝ }
 {
     let n = w[0] as usize;
     let mut joints = [0u64; 512];
-    let loss = count_joints(w, k, point_of(row), &mut joints);
+    let loss = count_joints(w, k, record_at(w, k).point, &mut joints);
     load(w, n, 4, k, kept);
     let m = n - 1;
     if w[5] < loss {
@@ -66,9 +63,8 @@ pub fn take_out(w: &mut [u64], k: usize) -> u64
     ensures words { λ r. ⌜ now (w .exit) ≡ pick (remove-overruns (read (now (w .entry))) (number-at (now (w .entry)) k)) (now (w .entry)) (layout (removed (read (now (w .entry))) (number-at (now (w .entry)) k)) ++ behind (now (w .entry))) ⌝ }
 {
     let m = w[0] as usize - 1;
-    let row = row_at(w, k);
     let mut kept = [0u64; 512];
-    let moved = raised(w, k, row, &mut kept);
+    let moved = raised(w, k, &mut kept);
     if !moved.fits {
         return 13;
     }

@@ -58,6 +58,10 @@ point-of-trial number (x ∷ y ∷ z ∷ u ∷ p) e = absurd (let no : ⊥ = ome
 pub point-of-record : (r : Record) → length (r .point .at) ≡ 3 → point (as-record r .trial) ≡ r .point .at
 point-of-record r e = point-of-trial (r .number) (r .point .at) e
 
+-- The point of a record read at a place.
+pub point-at : (w : List ℕ) (i : ℕ) (r : Record) → length (r .point .at) ≡ 3 → as-record r ≡ row-at w i → r .point .at ≡ point (row-at w i .trial)
+point-at w i r l e = sym (point-of-record r l) ∙ ap (λ (s : Row). point (s .trial)) e
+
 -- What finding a number tells of the archive that the words hold.
 pub find-held : (w : List ℕ) (number place : ℕ) → Found w (word w 0) number place → held number (trials (read w .rows)) ≡ ltb place (word w 0)
 unfolding read

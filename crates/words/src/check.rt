@@ -9,12 +9,11 @@ use hypervolume::Point;
 ghost use mathlib.Core.Path.{_≡_};
 ghost use mathlib.Core.Bool.{true, false};
 ghost use Prim.Native.Nat.{ℕ, _+_, _-_, _*_, _≤_};
-ghost use lib.Dec.{ltb, eqb};
 ghost use lib.ListN.{length, getD};
 ghost use lib.Seq.{slice};
-ghost use Rattle.slices.specs.Choices.{both, either};
+ghost use Rattle.slices.specs.Choices.{both};
 ghost use Rattle.hypervolume.specs.Cells.{box};
-ghost use Rattle.words.specs.Archive.{reference, before};
+ghost use Rattle.words.specs.Archive.{reference, ascends};
 ghost use Rattle.words.specs.Layout.{read-shape, read};
 ghost use Rattle.words.specs.Format.{within, shape-allowed, number-allowed, coordinates-allowed, header-allowed, row-allowed, sound-rows, zeros, records-allowed, archive-rows};
 ghost use Rattle.words.specs.Places.{as-row, as-shape, follows, stands, AtPlace, Headed};
@@ -95,28 +94,19 @@ fn row_allowed(s: Shape, cells: u64, row: Row) -> bool
     )
 }
 
-// m before n, or equal and the rest ascends.
-fn ascends(m: u64, n: u64, rest: bool) -> bool
-    ensures { λ r. ⌜ r ≡ either (ltb m n) (both (eqb m n) rest) ⌝ }
+// Whether a is less than b in the first number in which they differ.
+pub fn ascends(a: [u64; 4], b: [u64; 4]) -> bool
+    ensures { λ r. ⌜ r ≡ ascends a b ⌝ }
 {
-    if m < n { true } else { both(m == n, rest) }
-}
-
-// Whether t stands before u in ascending order of z, then y, then x, then trial number. Mostly z decides.
-pub fn before(t: Row, u: Row) -> bool
-    ensures { λ r. ⌜ r ≡ before (as-row t .trial) (as-row u .trial) ⌝ }
-{
-    if t.z < u.z {
-        return true;
+    for i in 0..4usize {
+        if a[i] < b[i] {
+            return true;
+        }
+        if b[i] < a[i] {
+            return false;
+        }
     }
-    if u.z < t.z {
-        return false;
-    }
-    ascends(
-        t.y,
-        u.y,
-        ascends(t.x, u.x, ascends(t.number, u.number, false)),
-    )
+    false
 }
 
 // Whether the record at place i stands in order behind the one before it.
@@ -127,7 +117,7 @@ fn follows(w: &[u64], i: usize) -> bool
     if i == 0 {
         return true;
     }
-    before(row_at(w, i - 1), row_at(w, i))
+    ascends(row_at(w, i - 1).key(), row_at(w, i).key())
 }
 
 // Notes the number in the table, and says whether its bit was set before.

@@ -3,7 +3,7 @@ mod check;
 mod header;
 mod rows;
 
-pub use check::before;
+pub use check::ascends;
 pub use check::box_of;
 pub use check::coordinates_allowed;
 pub use check::number_allowed;
@@ -16,6 +16,5 @@ pub use rows::Shape;
 pub use rows::find;
 pub use rows::record_at;
 pub use rows::reference_of;
-pub use rows::row_at;
 pub use rows::search;
 pub use rows::shape_of;

@@ -4,7 +4,7 @@ ghost use mathlib.Core.Path.{_≡_};
 ghost use mathlib.Core.Bool.{true};
 ghost use Prim.Native.Nat.{_+_, _*_, _≤_, _<_};
 ghost use lib.ListN.{length};
-ghost use Rattle.words.specs.Archive.{reference};
+ghost use Rattle.words.specs.Archive.{reference, key};
 ghost use Rattle.words.specs.Layout.{read-shape, word};
 ghost use Rattle.words.specs.Format.{shape-allowed, archive-rows};
 ghost use Rattle.words.specs.Places.{as-row, as-record, as-shape, row-at, Found};
@@ -18,11 +18,29 @@ pub struct Row {
     pub kept: u64,
 }
 
+impl Row {
+    // The numbers that the archive's order goes by.
+    pub fn key(self) -> [u64; 4]
+        ensures { λ r. ⌜ r ≡ key (as-row self .trial) ⌝ }
+    {
+        [self.z, self.y, self.x, self.number]
+    }
+}
+
 // A record that rows 2 and 3 have let pass: its trial number, its point and its kept contribution.
 pub struct Record {
     pub number: u64,
     pub point: Point,
     pub kept: u64,
+}
+
+impl Record {
+    pub fn key(self) -> [u64; 4]
+        ensures { λ r. ⌜ r ≡ key (as-record self .trial) ⌝ }
+    {
+        let at = self.point.at;
+        [at[2] as u64, at[1] as u64, at[0] as u64, self.number]
+    }
 }
 
 // What a start fixes: the capacity and the reference point.

@@ -2,23 +2,25 @@
 use Prim.Native.Nat.{ℕ, suc, _+_, _*_, _≤_, _<_}
 use mathlib.Core.Path.{_≡_, refl, sym, ap, ap₂, _∙_}
 use mathlib.Core.Bool.{true, false}
-use mathlib.Core.List.{List, _++_, map, append-nil, []}
+use mathlib.Core.List.{List, _∷_, _++_, map, append-nil, []}
 use native.Mathlib.Numerals.{add-one}
 use native.Mathlib.Omega.{arith}
-use lib.ListN.{length, take, set, length-map}
-use Rattle.words.specs.Archive.{Trial, Row}
+use lib.ListN.{length, take, drop, set, length-map}
+use Rattle.words.specs.Archive.{Trial, Row, Archive, trials}
 use Rattle.words.specs.Layout.{records, layout, read, word, behind}
 use Rattle.words.specs.Places.{rows-before}
 use Rattle.words.proofs.Passed.{Passed, passed}
 use Rattle.calls.specs.Calls.{place, insert-gain, lowered, inserted, box-of, insert-overruns}
 use Rattle.records.specs.Columns.{rekept, column}
+use Rattle.records.specs.Ranks.{rank-of}
+use Rattle.records.proofs.Ranks.{rank-inside, place-ranked}
 use Rattle.calls.proofs.Known.{count-rows, known}
 use Rattle.records.proofs.Stored
 use Rattle.records.proofs.Stored.{rows-put}
 use Rattle.slices.specs.Put.{put}
 use Rattle.slices.proofs.Put.{put-over}
-use Rattle.words.proofs.Reading.{length-records}
-use Rattle.calls.proofs.Members.{place-length}
+use Rattle.words.proofs.Reading.{length-records, length-read-rows}
+use Rattle.calls.proofs.Members.{place-length, trials-map}
 use lib.Dec.{ltb}
 use borrow.Author.Tests.{not-true, not-false, ltb-false}
 use Rattle.slices.proofs.Choices.{either-false}
@@ -43,15 +45,28 @@ pub storing-fits : {w : List ℕ} {t : Trial} {g : ℕ} {kept : List ℕ} → In
 unfolding read
 storing-fits {w} h = omega (arith, h .whole, known w (h .passes))
 
+-- Lowering contributions leaves the trials.
+trials-lowered : (a : Archive) (t : Trial) (rows : List Row) → trials (map (lowered a t) rows) ≡ trials rows
+unfolding lowered
+trials-lowered a t rows = trials-map (lowered a t) rows (λ r. refl)
+
+-- The new record's place is one of the places.
+pub storing-place : (w : List ℕ) (t : Trial) (k : ℕ) → k ≡ rank-of t (trials (rows-before w (word w 0))) → k ≤ word w 0
+unfolding trials
+storing-place w t k e =
+    let many : length (trials (rows-before w (word w 0))) ≡ word w 0 = length-map (rows-before w (word w 0)) _ ∙ length-read-rows (word w 0) (drop 8 w) in
+    omega (arith, rank-inside t (trials (rows-before w (word w 0))))
+
 -- Contributions lowered, the new record entered, the header written.
-insert-stored : (w w₁ w₂ w₃ vs : List ℕ) (t : Trial) → Passed w → word w 0 < word w 1
+insert-stored : (w w₁ w₂ w₃ vs : List ℕ) (t : Trial) (k : ℕ) → Passed w → word w 0 < word w 1
+    → k ≡ rank-of t (trials (rows-before w (word w 0)))
     → rekept (read w .rows) vs ≡ map (lowered (read w) t) (read w .rows)
     → w₁ ≡ put w 8 (records (rekept (rows-before w (word w 0)) vs))
-    → w₂ ≡ put w₁ 8 (records (place (λ r. r .trial) (record { trial = t; kept = insert-gain (read w) t }) (rows-before w₁ (word w 0))))
+    → w₂ ≡ put w₁ 8 (records (take k (rows-before w₁ (word w 0)) ++ (record { trial = t; kept = insert-gain (read w) t } ∷ drop k (rows-before w₁ (word w 0)))))
     → w₃ ≡ set (set w₂ 0 (word w 0 + 1)) 5 (word w 5 + insert-gain (read w) t)
     → w₃ ≡ layout (inserted (read w) t) ++ behind w
 unfolding inserted read
-insert-stored w w₁ w₂ w₃ vs t h l lower e₁ e₂ e₃ =
+insert-stored w w₁ w₂ w₃ vs t k h l ranked lower e₁ e₂ e₃ =
     let a = read w in
     let rows : List Row = map (lowered a t) (a .rows) in
     let row : Row = record { trial = t; kept = insert-gain a t } in
@@ -65,24 +80,28 @@ insert-stored w w₁ w₂ w₃ vs t h l lower e₁ e₂ e₃ =
     let first : w₁ ≡ put w 8 (records rows ++ []) = e₁ ∙ ap (λ x. put w 8 (records x)) lower ∙ ap (put w 8) (sym (append-nil (records rows))) in
     let read-again : rows-before w₁ (word w 0) ≡ rows =
     ap (λ x. rows-before x (word w 0)) first ∙ rows-put w rows [] (word w 0) (let s : 8 + length (records (map (lowered (read w) t) (read w .rows)) ++ []) ≤ length w = omega arith in s) sized in
+    let placed : take k rows ++ (row ∷ drop k rows) ≡ new =
+    ap (λ i. take i rows ++ (row ∷ drop i rows)) (ranked ∙ ap (rank-of t) (sym (trials-lowered a t (a .rows)))) ∙ sym (place-ranked row rows) in
     let second : w₂ ≡ put w 8 (records new) =
     e₂
-    ∙ ap₂ (λ x y. put x 8 (records (place (λ r. r .trial) row y))) first read-again
+    ∙ ap₂ (λ x y. put x 8 (records (take k y ++ (row ∷ drop k y)))) first read-again
+    ∙ ap (λ y. put (put w 8 (records rows ++ [])) 8 (records y)) placed
     ∙ put-over w 8 (records rows ++ []) (records new)
     (let s : 8 + length (records (map (lowered (read w) t) (read w .rows)) ++ []) ≤ length w = omega arith in s)
     (let s : length (records (map (lowered (read w) t) (read w .rows)) ++ []) ≤ length (records (place (λ r. r .trial) (record { trial = t; kept = insert-gain (read w) t }) (map (lowered (read w) t) (read w .rows)))) = omega arith in s) in
     Stored.stored w h w₂ w₃ (inserted a t) (word w 0 + 1) 0 refl grown (omega arith) (omega arith)
     (second ∙ ap (put w 8) (sym (append-nil (records new)))) e₃
 
-pub insertion-stored : (w w₁ w₂ w₃ kept : List ℕ) (t : Trial) (g : ℕ) → InsertReady w t g kept
+pub insertion-stored : (w w₁ w₂ w₃ kept : List ℕ) (t : Trial) (g k : ℕ) → InsertReady w t g kept
+    → k ≡ rank-of t (trials (rows-before w (word w 0)))
     → w₁ ≡ put w 8 (records (rekept (rows-before w (word w 0)) kept))
-    → w₂ ≡ put w₁ 8 (records (place (λ r. r .trial) (record { trial = t; kept = g }) (rows-before w₁ (word w 0))))
+    → w₂ ≡ put w₁ 8 (records (take k (rows-before w₁ (word w 0)) ++ (record { trial = t; kept = g } ∷ drop k (rows-before w₁ (word w 0)))))
     → w₃ ≡ set (set w₂ 0 (word w 0 + 1)) 5 (word w 5 + g)
     → w₃ ≡ layout (inserted (read w) t) ++ behind w
-insertion-stored w w₁ w₂ w₃ kept t g h e₁ e₂ e₃ =
-    insert-stored w w₁ w₂ w₃ kept t (passed w (h .passes)) (h .free)
+insertion-stored w w₁ w₂ w₃ kept t g k h ranked e₁ e₂ e₃ =
+    insert-stored w w₁ w₂ w₃ kept t k (passed w (h .passes)) (h .free) ranked
     (ap (rekept (read w .rows)) (h .values) ∙ lowered-rows (read w) t (read w .rows)) e₁
-    (e₂ ∙ ap (λ k. put w₁ 8 (records (place (λ r. r .trial) (record { trial = t; kept = k }) (rows-before w₁ (word w 0))))) (h .gained))
+    (e₂ ∙ ap (λ x. put w₁ 8 (records (take k (rows-before w₁ (word w 0)) ++ (record { trial = t; kept = x } ∷ drop k (rows-before w₁ (word w 0)))))) (h .gained))
     (e₃ ∙ ap (λ k. set (set w₂ 0 (word w 0 + 1)) 5 (word w 5 + k)) (h .gained))
 
 -- Row 13, or what storing asks.

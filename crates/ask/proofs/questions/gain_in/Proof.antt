@@ -36,21 +36,23 @@ returns c = c .refused .ensures ∙ answer-row (c .before .before .before .befor
 shared-slice-read-n : tie.Need-shared-slice-read-n
 shared-slice-read-n c = omega (arith, known (c .before .before .before .before .before .args .w .now) (c .before .before .before .before .before .pre))
 
-point-of-requires : tie.Need-point-of-requires
-point-of-requires c κs = allowed-small (c .before .before .before .before .before .args .w .now) (as-row (c .before .before .before .before .before .args .row) .trial) (c .before .before .before .before .before .pre) (six (c .before .before) ∙ not-false _ (c .before .if1 .left))
+new-requires : tie.Need-new-requires
+new-requires c κs =
+    let small = allowed-small (c .before .before .before .before .before .args .w .now) (as-row (c .before .before .before .before .before .args .row) .trial) (c .before .before .before .before .before .pre) (six (c .before .before) ∙ not-false _ (c .before .if1 .left)) in
+    (omega (arith, small 0), omega (arith, small 1), omega (arith, small 2))
 
 slice-aggregate-count-joints : tie.Need-slice-aggregate-count-joints
 slice-aggregate-count-joints c = search needs
 
 count-joints-requires : tie.Need-count-joints-requires
-count-joints-requires c κs = ((c .before .before .before .before .before .before .before .pre), le-refl _, omega arith, subst (λ q. Small q) (sym (c .before .point-of .ensures)) (allowed-small (c .before .before .before .before .before .before .before .args .w .now) (as-row (c .before .before .before .before .before .before .before .args .row) .trial) (c .before .before .before .before .before .before .before .pre) (six (c .before .before .before .before) ∙ not-false _ (c .before .before .before .if1 .left))))
+count-joints-requires c κs = ((c .before .before .before .before .before .before .before .pre), le-refl _, omega arith, subst (λ q. Small q) (sym (c .before .new .ensures)) (allowed-small (c .before .before .before .before .before .before .before .args .w .now) (as-row (c .before .before .before .before .before .before .before .args .row) .trial) (c .before .before .before .before .before .before .before .pre) (six (c .before .before .before .before) ∙ not-false _ (c .before .before .before .if1 .left))))
 
 done-requires : tie.Need-done-requires
 done-requires c κs = search needs
 
 returns-2 : tie.Need-returns-2
 unfolding gain-answer
-returns-2 c = c .done .ensures ∙ answer-value (c .before .before .before .before .before .before .before .before .before .before .args .w .now) _ _ _ (c .before .before .before .before .before .before .before .before .before .before .pre) (gain-passes _ _ (six (c .before .before .before .before .before .before .before) ∙ not-false _ (c .before .before .before .before .before .before .if1 .left))) (gain-front (c .before .before .before .before .before .before .before .before .before .before .args .w .now) _ _ _ _ _ (c .before .before .before .before .point-of .ensures) (c .before .before .count-joints .ensures))
+returns-2 c = c .done .ensures ∙ answer-value (c .before .before .before .before .before .before .before .before .before .before .args .w .now) _ _ _ (c .before .before .before .before .before .before .before .before .before .before .pre) (gain-passes _ _ (six (c .before .before .before .before .before .before .before) ∙ not-false _ (c .before .before .before .before .before .before .if1 .left))) (gain-front (c .before .before .before .before .before .before .before .before .before .before .args .w .now) _ _ _ _ _ (c .before .before .before .before .new .ensures) (c .before .before .count-joints .ensures))
 
 pub gain-in-spec : {M : Type 1} → statement M
 gain-in-spec =
@@ -61,7 +63,7 @@ gain-in-spec =
     refused-requires
     returns
     shared-slice-read-n
-    point-of-requires
+    new-requires
     slice-aggregate-count-joints
     count-joints-requires
     done-requires

@@ -7,22 +7,24 @@ use lib.ListN.{getD}
 use lib.Seq.{length-take-le}
 use Rattle.hypervolume.specs.Cells.{box}
 use Rattle.sweep.specs.Points.{Small}
-use Rattle.words.specs.Archive.{Row, point}
+use Rattle.words.specs.Archive.{point}
 use Rattle.words.proofs.Passed.{reference-small}
 use Rattle.words.specs.Layout.{read}
 use Rattle.calls.specs.Calls.{box-of}
 use Rattle.calls.proofs.Known.{known}
-use Rattle.words.specs.Places.{as-row}
-use Rattle.words.proofs.Places.{held-small}
+use Rattle.words.specs.Places.{row-at}
+use Rattle.words.proofs.Places.{held-small, point-at}
 use Rattle.ask.proofs.CountedAmounts.{front-of}
 use Rattle.removal.proofs.removing.Raising.{loss-counted, kept-counted, shares-counted, kept-each, joints-each, box-each, limit-fits, raised-over, raised-judged}
 use borrow.Author.Needs.{needs}
 use Rattle.removal.proofs.removing.raised.Statement.{statement}
 use Rattle.removal.proofs.removing.raised.Tie as tie
 
--- The point of the record that goes, as small as any held.
-held-point : (c : tie.Start) → Small (point (as-row (c .args .row) .trial))
-held-point c = subst (λ (r : Row). Small (point (r .trial))) (sym (c .pre .2)) (held-small (c .args .w .now) _ (c .pre .0) (c .pre .1))
+-- The point of the record that goes.
+read-point : (c : tie.After-record-at) → c .record-at .result .point .at ≡ point (row-at (c .before .before .before .before .args .w .now) (c .before .before .before .before .args .k) .trial)
+read-point c =
+    let s = c .before .before .before .before in
+    point-at (s .args .w .now) (s .args .k) (c .record-at .result) (search needs) (c .record-at .ensures)
 
 boxed : (c : tie.After-box-of) → c .box-of .result ≡ box-of (read (c .before .before .before .before .before .before .before .before .before .before .before .before .before .before .before .before .before .args .w .now))
 unfolding read
@@ -31,17 +33,17 @@ boxed c = c .box-of .ensures ∙ ap box (c .before .reference-of .ensures)
 shared-slice-read-n : tie.Need-shared-slice-read-n
 shared-slice-read-n c = omega (arith, known (c .before .before .before .args .w .now) (c .before .before .before .pre .0))
 
-point-of-requires : tie.Need-point-of-requires
-point-of-requires c κs = held-point (c .before .before .before)
+record-at-requires : tie.Need-record-at-requires
+record-at-requires c κs = (c .before .before .before .pre .0, c .before .before .before .pre .1)
 
 slice-aggregate-count-joints : tie.Need-slice-aggregate-count-joints
 slice-aggregate-count-joints c = search needs
 
 count-joints-requires : tie.Need-count-joints-requires
-count-joints-requires c κs = (c .before .before .before .before .before .pre .0, le-of-lt (c .before .before .before .before .before .pre .1), omega arith, subst (λ q. Small q) (sym (c .before .point-of .ensures)) (held-point (c .before .before .before .before .before)))
+count-joints-requires c κs = (c .before .before .before .before .before .pre .0, le-of-lt (c .before .before .before .before .before .pre .1), omega arith, subst (λ q. Small q) (sym (read-point (c .before))) (held-small (c .before .before .before .before .before .args .w .now) _ (c .before .before .before .before .before .pre .0) (c .before .before .before .before .before .pre .1)))
 
 load-requires : tie.Need-load-requires
-load-requires c κs = omega (arith, known (c .before .before .before .before .before .before .before .before .args .w .now) (c .before .before .before .before .before .before .before .before .pre .0), c .before .before .before .before .before .before .before .before .pre .3, c .before .before .before .before .before .before .before .before .pre .1)
+load-requires c κs = omega (arith, known (c .before .before .before .before .before .before .before .before .args .w .now) (c .before .before .before .before .before .before .before .before .pre .0), c .before .before .before .before .before .before .before .before .pre .2, c .before .before .before .before .before .before .before .before .pre .1)
 
 sub-m : tie.Need-sub-m
 sub-m c = search needs
@@ -55,13 +57,13 @@ same-length c = search needs
 returns : tie.Need-returns
 returns c =
     raised-over (c .before .before .before .before .before .before .before .before .before .before .before .before .before .args .w .now) _ _ _ (c .before .before .before .before .before .before .before .before .before .before .before .before .before .pre .0) (c .before .before .before .before .before .before .before .before .before .before .before .before .before .pre .1)
-    (loss-counted (c .before .before .before .before .before .before .before .before .before .before .before .before .before .args .w .now) _ (c .before .before .before .before .before .before .before .before .before .before .before .before .before .pre .0) (c .before .before .before .before .before .before .before .before .before .before .before .before .before .pre .1) _ _ _ _ (c .before .before .before .before .before .before .before .before .before .point-of .ensures ∙ ap (λ (r : Row). point (r .trial)) (c .before .before .before .before .before .before .before .before .before .before .before .before .before .pre .2)) (c .before .before .before .before .before .before .before .count-joints .ensures)) (c .if1 .taken)
+    (loss-counted (c .before .before .before .before .before .before .before .before .before .before .before .before .before .args .w .now) _ (c .before .before .before .before .before .before .before .before .before .before .before .before .before .pre .0) (c .before .before .before .before .before .before .before .before .before .before .before .before .before .pre .1) _ _ _ _ (read-point (c .before .before .before .before .before .before .before .before .before)) (c .before .before .before .before .before .before .before .count-joints .ensures)) (c .if1 .taken)
 
 slice-relend-prefix-raise : tie.Need-slice-relend-prefix-raise
-slice-relend-prefix-raise c = omega (arith, c .before .before .before .before .load .kept, c .before .before .before .before .before .before .before .before .before .before .before .before .before .pre .3, known (c .before .before .before .before .before .before .before .before .before .before .before .before .before .args .w .now) (c .before .before .before .before .before .before .before .before .before .before .before .before .before .pre .0))
+slice-relend-prefix-raise c = omega (arith, c .before .before .before .before .load .kept, c .before .before .before .before .before .before .before .before .before .before .before .before .before .pre .2, known (c .before .before .before .before .before .before .before .before .before .before .before .before .before .args .w .now) (c .before .before .before .before .before .before .before .before .before .before .before .before .before .pre .0))
 
 slice-aggregate-raise : tie.Need-slice-aggregate-raise
-slice-aggregate-raise c = sym (length-take-le _ _ (omega (arith, c .before .before .before .before .before .load .kept, c .before .before .before .before .before .before .before .before .before .before .before .before .before .before .pre .3, known (c .before .before .before .before .before .before .before .before .before .before .before .before .before .before .args .w .now) (c .before .before .before .before .before .before .before .before .before .before .before .before .before .before .pre .0))))
+slice-aggregate-raise c = sym (length-take-le _ _ (omega (arith, c .before .before .before .before .before .load .kept, c .before .before .before .before .before .before .before .before .before .before .before .before .before .before .pre .2, known (c .before .before .before .before .before .before .before .before .before .before .before .before .before .before .args .w .now) (c .before .before .before .before .before .before .before .before .before .before .before .before .before .before .pre .0))))
 
 array-share-prefix-joints : tie.Need-array-share-prefix-joints
 array-share-prefix-joints c = omega (arith, c .before .before .before .before .before .before .before .before .count-joints .kept, known (c .before .before .before .before .before .before .before .before .before .before .before .before .before .before .args .w .now) (c .before .before .before .before .before .before .before .before .before .before .before .before .before .before .pre .0))
@@ -80,12 +82,12 @@ raise-requires c κs =
     let start = c .before .before .before .before .before .before .before .before .before .before .before .before .before .before .before .before .before in (
       (
         length-take-le (getD (start .args .w .now) 0 0 - 1) (c .before .before .before .before .before .before .before .before .before .before .before .count-joints .last .1 .1 .1 .0) (omega (arith, c .before .before .before .before .before .before .before .before .before .before .before .count-joints .kept, known (c .before .before .before .before .before .before .before .before .before .before .before .before .before .before .before .before .before .args .w .now) (c .before .before .before .before .before .before .before .before .before .before .before .before .before .before .before .before .before .pre .0)))
-            ∙ sym (length-take-le (getD (start .args .w .now) 0 0 - 1) (c .before .before .before .before .before .before .before .before .load .last .1 .1 .1 .1 .0) (omega (arith, c .before .before .before .before .before .before .before .before .load .kept, c .before .before .before .before .before .before .before .before .before .before .before .before .before .before .before .before .before .pre .3, known (c .before .before .before .before .before .before .before .before .before .before .before .before .before .before .before .before .before .args .w .now) (c .before .before .before .before .before .before .before .before .before .before .before .before .before .before .before .before .before .pre .0)))),
+            ∙ sym (length-take-le (getD (start .args .w .now) 0 0 - 1) (c .before .before .before .before .before .before .before .before .load .last .1 .1 .1 .1 .0) (omega (arith, c .before .before .before .before .before .before .before .before .load .kept, c .before .before .before .before .before .before .before .before .before .before .before .before .before .before .before .before .before .pre .2, known (c .before .before .before .before .before .before .before .before .before .before .before .before .before .before .before .before .before .args .w .now) (c .before .before .before .before .before .before .before .before .before .before .before .before .before .before .before .before .before .pre .0)))),
         limit-fits (start .args .w .now) _ (start .pre .0) (boxed c),
       ),
       (
         box-each _ _ _ _ (kept-counted (c .before .before .before .before .before .before .before .before .before .before .before .before .before .before .before .before .before .args .w .now) _ (c .before .before .before .before .before .before .before .before .before .before .before .before .before .before .before .before .before .pre .0) (c .before .before .before .before .before .before .before .before .before .before .before .before .before .before .before .before .before .pre .1) _ _ _ _ refl (c .before .before .before .before .before .before .before .before .load .ensures .0) (c .before .before .before .before .before .before .before .before .load .ensures .1)) (boxed c) (kept-each (start .args .w .now) _ (start .pre .0)),
-        box-each _ _ _ _ (shares-counted (c .before .before .before .before .before .before .before .before .before .before .before .before .before .before .before .before .before .args .w .now) _ (c .before .before .before .before .before .before .before .before .before .before .before .before .before .before .before .before .before .pre .0) (c .before .before .before .before .before .before .before .before .before .before .before .before .before .before .before .before .before .pre .1) _ _ _ _ _ (c .before .before .before .before .before .before .before .before .before .before .before .before .before .point-of .ensures ∙ ap (λ (r : Row). point (r .trial)) (c .before .before .before .before .before .before .before .before .before .before .before .before .before .before .before .before .before .pre .2)) refl (c .before .before .before .before .before .before .before .before .before .before .before .count-joints .ensures)) (boxed c) (joints-each (start .args .w .now) _),
+        box-each _ _ _ _ (shares-counted (c .before .before .before .before .before .before .before .before .before .before .before .before .before .before .before .before .before .args .w .now) _ (c .before .before .before .before .before .before .before .before .before .before .before .before .before .before .before .before .before .pre .0) (c .before .before .before .before .before .before .before .before .before .before .before .before .before .before .before .before .before .pre .1) _ _ _ _ _ (read-point (c .before .before .before .before .before .before .before .before .before .before .before .before .before)) refl (c .before .before .before .before .before .before .before .before .before .before .before .count-joints .ensures)) (boxed c) (joints-each (start .args .w .now) _),
       ),
     )
 
@@ -96,18 +98,18 @@ returns-2 : tie.Need-returns-2
 returns-2 c =
     let start = c .before .before .before .before .before .before .before .before .before .before .before .before .before .before .before .before .before .before .before .before in
     raised-judged (start .args .w .now) _ _ _ (start .pre .0) (start .pre .1)
-    (loss-counted (c .before .before .before .before .before .before .before .before .before .before .before .before .before .before .before .before .before .before .before .before .args .w .now) _ (c .before .before .before .before .before .before .before .before .before .before .before .before .before .before .before .before .before .before .before .before .pre .0) (c .before .before .before .before .before .before .before .before .before .before .before .before .before .before .before .before .before .before .before .before .pre .1) _ _ _ _ (c .before .before .before .before .before .before .before .before .before .before .before .before .before .before .before .before .point-of .ensures ∙ ap (λ (r : Row). point (r .trial)) (c .before .before .before .before .before .before .before .before .before .before .before .before .before .before .before .before .before .before .before .before .pre .2)) (c .before .before .before .before .before .before .before .before .before .before .before .before .before .before .count-joints .ensures)) _ _ _ _ _ (c .before .before .before .before .before .before .before .if1 .left) (boxed (c .before .before .before))
+    (loss-counted (c .before .before .before .before .before .before .before .before .before .before .before .before .before .before .before .before .before .before .before .before .args .w .now) _ (c .before .before .before .before .before .before .before .before .before .before .before .before .before .before .before .before .before .before .before .before .pre .0) (c .before .before .before .before .before .before .before .before .before .before .before .before .before .before .before .before .before .before .before .before .pre .1) _ _ _ _ (read-point (c .before .before .before .before .before .before .before .before .before .before .before .before .before .before .before .before)) (c .before .before .before .before .before .before .before .before .before .before .before .before .before .before .count-joints .ensures)) _ _ _ _ _ (c .before .before .before .before .before .before .before .if1 .left) (boxed (c .before .before .before))
     (kept-counted (c .before .before .before .before .before .before .before .before .before .before .before .before .before .before .before .before .before .before .before .before .args .w .now) _ (c .before .before .before .before .before .before .before .before .before .before .before .before .before .before .before .before .before .before .before .before .pre .0) (c .before .before .before .before .before .before .before .before .before .before .before .before .before .before .before .before .before .before .before .before .pre .1) _ _ _ _ refl (c .before .before .before .before .before .before .before .before .before .before .before .load .ensures .0) (c .before .before .before .before .before .before .before .before .before .before .before .load .ensures .1))
-    (shares-counted (c .before .before .before .before .before .before .before .before .before .before .before .before .before .before .before .before .before .before .before .before .args .w .now) _ (c .before .before .before .before .before .before .before .before .before .before .before .before .before .before .before .before .before .before .before .before .pre .0) (c .before .before .before .before .before .before .before .before .before .before .before .before .before .before .before .before .before .before .before .before .pre .1) _ _ _ _ _ (c .before .before .before .before .before .before .before .before .before .before .before .before .before .before .before .before .point-of .ensures ∙ ap (λ (r : Row). point (r .trial)) (c .before .before .before .before .before .before .before .before .before .before .before .before .before .before .before .before .before .before .before .before .pre .2)) refl (c .before .before .before .before .before .before .before .before .before .before .before .before .before .before .count-joints .ensures)) (c .before .before .raise .ensures)
+    (shares-counted (c .before .before .before .before .before .before .before .before .before .before .before .before .before .before .before .before .before .before .before .before .args .w .now) _ (c .before .before .before .before .before .before .before .before .before .before .before .before .before .before .before .before .before .before .before .before .pre .0) (c .before .before .before .before .before .before .before .before .before .before .before .before .before .before .before .before .before .before .before .before .pre .1) _ _ _ _ _ (read-point (c .before .before .before .before .before .before .before .before .before .before .before .before .before .before .before .before)) refl (c .before .before .before .before .before .before .before .before .before .before .before .before .before .before .count-joints .ensures)) (c .before .before .raise .ensures)
     (front-of _ (c .before .before .before .before .before .before .before .before .before .before .before .load .last .1 .1 .1 .1 .0) (getD (start .args .w .now) 0 0 - 1) _ (c .before .before .raise .kept .0)
-    (omega (arith, c .before .before .before .before .before .before .before .before .before .before .before .load .kept, c .before .before .before .before .before .before .before .before .before .before .before .before .before .before .before .before .before .before .before .before .pre .3, known (c .before .before .before .before .before .before .before .before .before .before .before .before .before .before .before .before .before .before .before .before .args .w .now) (c .before .before .before .before .before .before .before .before .before .before .before .before .before .before .before .before .before .before .before .before .pre .0))) refl)
+    (omega (arith, c .before .before .before .before .before .before .before .before .before .before .before .load .kept, c .before .before .before .before .before .before .before .before .before .before .before .before .before .before .before .before .before .before .before .before .pre .2, known (c .before .before .before .before .before .before .before .before .before .before .before .before .before .before .before .before .before .before .before .before .args .w .now) (c .before .before .before .before .before .before .before .before .before .before .before .before .before .before .before .before .before .before .before .before .pre .0))) refl)
 
 pub raised-spec : {M : Type 1} → statement M
 raised-spec =
     tie.close
     (tie.spec
     shared-slice-read-n
-    point-of-requires
+    record-at-requires
     slice-aggregate-count-joints
     count-joints-requires
     load-requires

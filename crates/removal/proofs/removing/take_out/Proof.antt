@@ -16,14 +16,11 @@ slice-read-m c = omega (arith, known (c .before .before .args .w .now) (c .befor
 sub-m : tie.Need-sub-m
 sub-m c = search needs
 
-row-at-requires : tie.Need-row-at-requires
-row-at-requires c κs = omega (arith, known (c .before .before .before .args .w .now) (c .before .before .before .pre .0), (c .before .before .before .pre .1))
-
 slice-aggregate-raised : tie.Need-slice-aggregate-raised
 slice-aggregate-raised c = search needs
 
 raised-requires : tie.Need-raised-requires
-raised-requires c κs = ((c .before .before .before .before .before .before .pre .0), (c .before .before .before .before .before .before .pre .1), c .before .before .row-at .ensures, omega arith)
+raised-requires c κs = ((c .before .before .before .before .pre .0), (c .before .before .before .before .pre .1), omega arith)
 
 same-length : tie.Need-same-length
 same-length c = search needs
@@ -32,13 +29,13 @@ returns : tie.Need-returns
 returns c = row-13-given _ _ _ (overruns (c .before .before .before .raised .ensures) (not-true _ (c .if1 .taken)))
 
 array-share-prefix-kept : tie.Need-array-share-prefix-kept
-array-share-prefix-kept c = omega (arith, known (c .before .before .before .before .before .before .before .before .before .before .before .args .w .now) (c .before .before .before .before .before .before .before .before .before .before .before .pre .0), c .before .before .before .before .raised .kept)
+array-share-prefix-kept c = omega (arith, known (c .before .before .before .before .before .before .before .before .before .args .w .now) (c .before .before .before .before .before .before .before .before .before .pre .0), c .before .before .before .before .raised .kept)
 
 slice-aggregate-store : tie.Need-slice-aggregate-store
-slice-aggregate-store c = sym (length-take-le _ _ (omega (arith, known (c .before .before .before .before .before .before .before .before .before .before .before .before .args .w .now) (c .before .before .before .before .before .before .before .before .before .before .before .before .pre .0), c .before .before .before .before .before .raised .kept)))
+slice-aggregate-store c = sym (length-take-le _ _ (omega (arith, known (c .before .before .before .before .before .before .before .before .before .before .args .w .now) (c .before .before .before .before .before .before .before .before .before .before .pre .0), c .before .before .before .before .before .raised .kept)))
 
 store-requires : tie.Need-store-requires
-store-requires c κs = striking (c .before .before .before .before .before .raised .ensures) (c .before .before .before .before .before .before .before .before .before .before .before .before .pre .0) (c .before .before .before .before .before .before .before .before .before .before .before .before .pre .1) (not-false _ (c .before .before .if1 .left))
+store-requires c κs = striking (c .before .before .before .before .before .raised .ensures) (c .before .before .before .before .before .before .before .before .before .before .pre .0) (c .before .before .before .before .before .before .before .before .before .before .pre .1) (not-false _ (c .before .before .if1 .left))
 
 same-length-2 : tie.Need-same-length-2
 same-length-2 c = search needs
@@ -52,7 +49,6 @@ take-out-spec =
     (tie.spec
     slice-read-m
     sub-m
-    row-at-requires
     slice-aggregate-raised
     raised-requires
     same-length
