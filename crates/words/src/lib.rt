@@ -16,6 +16,5 @@ pub use rows::Shape;
 pub use rows::find;
 pub use rows::record_at;
 pub use rows::reference_of;
-pub use rows::row_at;
 pub use rows::search;
 pub use rows::shape_of;
