@@ -6,8 +6,8 @@ use crate::division::millionths;
 use calls::Answer;
 use calls::LeastAnswer;
 use hypervolume::Point;
+use records::amount_at;
 use records::least_place;
-use records::load;
 use records::some_differs;
 use words::Row;
 use words::box_of;
@@ -23,6 +23,7 @@ ghost use Rattle.words.specs.Layout.{word, read};
 ghost use Rattle.words.specs.Format.{archive-rows};
 ghost use Rattle.words.specs.Places.{as-row, row-at};
 ghost use Rattle.calls.specs.Calls.{audited, joint-of};
+ghost use Rattle.records.specs.Columns.{place-but};
 ghost use Rattle.calls.specs.Lent.{least, share, joint, gain-answer, audit, trial-of};
 
 // Row 14 where no trial is held.
@@ -53,18 +54,30 @@ pub fn least(w: &[u64]) -> LeastAnswer
     least_in(w)
 }
 
-// The joint contribution of the trials at two places: among the others of the first, the second stands one place
-// lower where it comes behind it.
+// The place of the record at k among the others of the one at i: one lower where it comes behind it.
+fn place_among(i: usize, k: usize) -> usize
+    requires { ⌜ i ≡ k → ⊥ ⌝ }
+    ensures { λ r. ⌜ place-but i r ≡ k ⌝ }
+{
+    if i < k { k - 1 } else { k }
+}
+
+// The joint contribution of the trials at two places.
 fn joint_at(w: &[u64], i: usize, k: usize) -> u64
     requires { ⌜ (archive-rows (now w) 0 ≡ 0) × (i < word (now w) 0) × (k < word (now w) 0) × (i ≡ k → ⊥) ⌝ }
     ensures { λ r. ⌜ r ≡ joint-of (read (now (w .entry))) (row-at (now (w .entry)) i .trial .number) (row-at (now (w .entry)) k .trial .number) ⌝ }
 {
-    let mut joints = [0u64; 512];
-    count_joints(w, i, record_at(w, i).point, &mut joints);
-    if i < k {
-        return joints[k - 1];
-    }
-    joints[k]
+    let mut places = [0u16; 512];
+    let mut counts = [0u64; 512];
+    let counted = count_joints(
+        w,
+        i,
+        record_at(w, i).point,
+        &mut places,
+        &mut counts,
+    );
+    let m = counted.moved;
+    amount_at(&places[..m], &counts[..m], place_among(i, k))
 }
 
 // Rows 9 and 10.
@@ -106,10 +119,12 @@ fn gain_in(w: &[u64], row: Row) -> Answer
     if !coordinates_allowed(shape_of(w), row) {
         return Answer::refused(6);
     }
-    let mut joints = [0u64; 512];
+    let mut places = [0u16; 512];
+    let mut counts = [0u64; 512];
     let n = w[0] as usize;
     let p = Point::new(row.x, row.y, row.z);
-    Answer::done(count_joints(w, n, p, &mut joints))
+    let counted = count_joints(w, n, p, &mut places, &mut counts);
+    Answer::done(counted.gain)
 }
 
 // Gain (point): cells that it dominates and no trial does.
@@ -157,13 +172,11 @@ pub fn audited(w: &[u64]) -> bool
 {
     let n = w[0] as usize;
     let mut counts = [0u64; 512];
-    let mut kept = [0u64; 512];
     let total = count_all(w, &mut counts);
-    load(w, n, 4, n, &mut kept);
     if w[5] != total {
         return false;
     }
-    !some_differs(&kept[..n], &counts[..n])
+    !some_differs(w, &counts[..n])
 }
 
 // Audit: 1 for yes.
