@@ -1,24 +1,22 @@
 -- The points of a list of records: which they are, and that those of a sound archive's records, or of all of them but
 -- one, are as the counting takes them.
-use Prim.Native.Nat.{ℕ, zero, suc, _+_, _-_, _≤_, _<_, zero-le, min}
-use mathlib.Core.Path.{_≡_, refl, sym, ap, ap₂, _∙_}
+use Prim.Native.Nat.{ℕ, zero, suc, _≤_, _<_, zero-le}
+use mathlib.Core.Path.{_≡_, refl, ap}
 use mathlib.Core.Bool.{true}
 use mathlib.Core.List.{List, _∷_, _++_, []}
-use native.Mathlib.Decide.{decLt}
 use native.Mathlib.Omega.{arith}
-use lib.ListN.{length, getD, take, drop, length-append, length-take, length-drop}
-use Rattle.slices.proofs.Choices.{both-true, both-intro}
+use lib.ListN.{length, getD}
+use Rattle.slices.proofs.Choices.{both-true}
 use Rattle.hypervolume.specs.Sorted.{Sorted}
 use Rattle.words.specs.Archive.{Trial, Row, Shape, Archive, point, trials, points, before}
-use Rattle.words.specs.Layout.{read, read-shape, word}
-use Rattle.words.specs.Format.{archive-rows, row-allowed, rows-allowed, ordered, distinct}
+use Rattle.words.specs.Layout.{read, word}
+use Rattle.words.specs.Format.{archive-rows, row-allowed, rows-allowed, ordered}
 use Rattle.words.specs.Places.{rows-before}
 use Rattle.words.proofs.Passed.{Sound, ShapeBounds, row-bounds, shape-bounds, coordinates-small}
-use Rattle.calls.specs.Calls.{others}
-use Rattle.calls.proofs.Known.{known, count-rows}
-use Rattle.calls.proofs.Order.{Ascent, lower, level, ascent, ordered-ascending, ascending-ordered, others-ascending}
+use Rattle.calls.proofs.Known.{known}
+use Rattle.calls.proofs.Order.{Ascent, lower, level, ascent}
 use Rattle.records.specs.Columns.{leave-out}
-use Rattle.records.proofs.LeaveOut.{leave-none, others-at}
+use Rattle.records.proofs.LeaveOut.{left-allowed, left-ordered, left-fewer}
 use Rattle.records.proofs.RowAt.{blank}
 
 pub points-append : (rows more : List Row) → points (trials (rows ++ more)) ≡ points (trials rows) ++ points (trials more)
@@ -79,32 +77,7 @@ sound-sorted a h =
     let bounds = shape-bounds (a .shape) (h .shaped) in
     points-sorted (a .shape) (a .rows) bounds (omega (arith, h .held-within, bounds .capacity-high)) (h .rows-fit) (h .in-order)
 
--- Leaving one record out keeps the others allowed and in order, and is no more.
-left-allowed : (s : Shape) (rows : List Row) (k : ℕ) → rows-allowed s rows ≡ true → rows-allowed s (leave-out k rows) ≡ true
-unfolding leave-out rows-allowed
-left-allowed s [] zero h = refl
-left-allowed s [] (suc k) h = refl
-left-allowed s (r ∷ rows) zero h = both-true (row-allowed s r) (rows-allowed s rows) h .1
-left-allowed s (r ∷ rows) (suc k) h =
-    let parts = both-true (row-allowed s r) (rows-allowed s rows) h in
-    both-intro (row-allowed s r) (rows-allowed s (take k rows ++ drop (suc k) rows)) (parts .0) (left-allowed s rows k (parts .1))
-
-left-ordered : (rows : List Row) (k : ℕ) → ordered (trials rows) ≡ true → distinct (trials rows) ≡ true → ordered (trials (leave-out k rows)) ≡ true
-left-ordered rows k o d = go (decLt k (length rows))
-  where
-    go : Dec (k < length rows) → ordered (trials (leave-out k rows)) ≡ true
-    go (yes m) =
-        ap (λ x. ordered (trials x)) (sym (others-at rows k blank m d))
-        ∙ ascending-ordered (trials (others (getD rows k blank .trial .number) rows)) (others-ascending (getD rows k blank .trial .number) rows (ordered-ascending (trials rows) o))
-    go (no m) = ap (λ x. ordered (trials x)) (leave-none rows k (omega arith)) ∙ o
-
-left-fewer : (rows : List Row) (k : ℕ) → length (leave-out k rows) ≤ length rows
-unfolding leave-out
-left-fewer rows k =
-    let size : length (take k rows ++ drop (suc k) rows) ≡ min k (length rows) + (length rows - suc k) =
-    length-append (take k rows) (drop (suc k) rows) ∙ ap₂ _+_ (length-take k rows) (length-drop (suc k) rows) in
-    omega arith
-
+-- All records but one.
 pub left-sorted : (a : Archive) (k : ℕ) → Sound a → Sorted (points (trials (leave-out k (a .rows))))
 left-sorted a k h =
     let bounds = shape-bounds (a .shape) (h .shaped) in

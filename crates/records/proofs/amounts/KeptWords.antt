@@ -14,11 +14,10 @@ use Rattle.words.specs.Layout.{record-words, records, read-rows}
 use Rattle.words.proofs.Reading.{length-records, length-read-rows, records-read}
 use Rattle.records.specs.Columns.{field-of, column, leave-out, place-but, rekept}
 use Rattle.records.specs.Amounts.{moved, Each, Placed, amounts-at}
-use Rattle.records.proofs.Columns.{length-column, column-at}
+use Rattle.records.proofs.Columns.{length-column, column-at, length-rekept}
 use Rattle.records.proofs.LeaveOut.{length-leave-out, leave-at, place-but-below}
 use Rattle.records.proofs.RowAt.{blank}
 use Rattle.records.proofs.amounts.PlacedLoops.{Judging, judging-none, Placing, placing-none, placing-here, placing-more, placing-end}
-use Rattle.records.proofs.strides.Keeping.{length-rekept}
 
 -- A word set in a part.
 set-behind : (xs ys : List ℕ) (n i v : ℕ) → length xs ≡ n → set (xs ++ ys) (n + i) v ≡ xs ++ set ys i v

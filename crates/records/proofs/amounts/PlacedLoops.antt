@@ -4,14 +4,14 @@ use Prim.Native.Nat.{ℕ, suc, _+_, _≤_, _<_}
 use mathlib.Core.Path.{_≡_, refl, sym, ap, ap₂, _∙_}
 use mathlib.Core.Bool.{Bool, true, false, not}
 use mathlib.Core.List.{List}
+use native.Mathlib.Decide.{decLt}
 use native.Mathlib.Numerals.{add-one}
 use native.Mathlib.Omega.{arith}
-use lib.ListN.{length, take, set, getD, replicate, length-set, length-replicate}
+use lib.ListN.{length, take, set, getD, replicate, length-set, length-replicate, List·getD-eq-default}
 use lib.Seq.{take-length, length-take-le, getD-take}
 use Rattle.slices.specs.Spread.{spread, Sparse}
-use native.Mathlib.Decide.{decLt}
 use Rattle.slices.proofs.Spread.{length-spread-zeros, spread-more, spread-other, spread-at, spread-before, zeros-at}
-use Rattle.records.specs.Amounts.{moved, some-pair, Placed, amounts-at}
+use Rattle.records.specs.Amounts.{moved, some-pair, Each, Placed, amounts-at}
 use Rattle.records.proofs.MovedAmounts.{length-moved, moved-at, moved-set, moved-zeros, some-pair-at, no-pair-at, no-pair-set, no-pair-zeros}
 
 -- The amounts at the first k places.
@@ -157,6 +157,17 @@ no-pair-here test vs {n} {places} {counts} k size h none l =
     let inside : getD places k 0 < n = h .inside k l in
     ap (test (getD vs (getD places k 0) 0)) (sym (amount-at h k l))
     ∙ no-pair-at test vs (amounts-at n places counts) (getD places k 0) (length-spread-zeros n places counts ∙ sym size) (omega arith) none
+
+-- No count is above the limit where no amount is.
+pub counts-low : {n : ℕ} {places counts : List ℕ} (limit : ℕ) → Placed n places counts → Each (amounts-at n places counts) limit → Each counts limit
+counts-low {n} {places} {counts} limit h low k = go (decLt k (length places))
+  where
+    go : Dec (k < length places) → getD counts k 0 ≤ limit
+    go (yes l) = omega (arith, amount-at h k l, low (getD places k 0))
+    go (no l) =
+        let many : length counts ≡ length places = h .many in
+        let none : getD counts k 0 ≡ 0 = List·getD-eq-default counts 0 (let m : length counts ≤ k = omega arith in m) in
+        omega arith
 
 -- The first m places and numbers of a list that they say, as these functions take them.
 pub sparse-placed : {n : ℕ} {all places numbers : List ℕ} {m : ℕ} → Sparse n all places numbers m → m ≤ length places → m ≤ length numbers

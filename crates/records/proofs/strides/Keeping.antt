@@ -12,6 +12,7 @@ use Rattle.words.specs.Archive.{Row}
 use Rattle.words.specs.Layout.{record-words, records, read-row, read-rows}
 use Rattle.words.proofs.Reading.{length-records, records-append, length-read-rows, stretch, take-stretch}
 use Rattle.records.specs.Columns.{rekept}
+use Rattle.records.proofs.Columns.{length-rekept}
 
 -- One record more, at the end.
 pub read-rows-more : (n : ℕ) (w : List ℕ) → read-rows (suc n) w ≡ read-rows n w ++ (read-row (drop (5 * n) w) ∷ [])
@@ -76,12 +77,6 @@ keep-next w vs i l room =
     ∙ records-append (rekept (read-rows i w) vs) (with-kept row (getD vs (length (read-rows i w)) 0) ∷ [])
     ∙ ap (λ k. records (rekept (read-rows i w) vs) ++ (record-words (with-kept row (getD vs k 0)) ++ [])) size
     ∙ ap (λ k. records (rekept (read-rows i w) vs) ++ k) (append-nil (record-words (with-kept row (getD vs i 0))) ∙ record-words-kept (drop (5 * i) w) (getD vs i 0) (omega arith)))
-
-pub length-rekept : (rows : List Row) (vs : List ℕ) → length (rekept rows vs) ≡ length rows
-unfolding rekept
-length-rekept [] vs = refl
-length-rekept (r ∷ rows) [] = refl
-length-rekept (r ∷ rows) (v ∷ vs) = ap suc (length-rekept rows vs)
 
 pub keeping-more : {old : List ℕ} {n : ℕ} {vs now : List ℕ} {i : ℕ} → Keeping old n vs now i → i < n → 8 + 5 * n ≤ length old → n ≤ length vs → Keeping old n vs (set now (12 + 5 * i) (getD vs i 0)) (i + 1)
 keeping-more {old} {n} {vs} {now} {i} h l room values =
