@@ -1,6 +1,6 @@
 -- The points that the test makes are as the sweep asks.
 use Prim.Native.Nat.{ℕ, zero, suc, _+_, _≤_, _<_}
-use mathlib.Core.Path.{_≡_, refl, ap, sym, _∙_}
+use mathlib.Core.Path.{_≡_, refl, ap, _∙_}
 use mathlib.Core.List.{List, _∷_, []}
 use native.Mathlib.Decide.{decLe}
 use native.Mathlib.Omega.{arith}

@@ -1,5 +1,5 @@
 -- `fill` meets its contract. The invariant: the first i points are small and ascend up to z.
-use Prim.Native.Nat.{_-_, _%_, _<_}
+use Prim.Native.Nat.{_-_}
 use native.Mathlib.Nat.{mod-le}
 use native.Mathlib.Omega.{arith}
 use lib.ListN.{length}
@@ -36,7 +36,8 @@ add-z : tie.Need-add-z Inv-loop μ-loop
 add-z c = search needs
 
 new-requires : tie.Need-new-requires Inv-loop μ-loop
-new-requires c κs = let noise3 = c .before in
+new-requires c κs =
+    let noise3 = c .before in
     let noise2 = noise3 .before in
     let noise1 = noise2 .before in
     let limit = noise1 .before .before .before .args .limit in
@@ -52,7 +53,8 @@ loop-less : tie.Need-loop-less Inv-loop μ-loop
 loop-less c = search needs
 
 loop-again : tie.Need-loop-again Inv-loop μ-loop
-loop-again c = let new = c .before .before in
+loop-again c =
+    let new = c .before .before in
     let noise3 = new .before .before in
     let noise2 = noise3 .before in
     let noise1 = noise2 .before in
