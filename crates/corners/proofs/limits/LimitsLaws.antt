@@ -1,6 +1,6 @@
 -- `limits`: on each axis the second least of the offers that the points make.
 use Prim.Native.Nat.{ℕ, zero, suc, _+_, _≤_, _<_, max, min}
-use mathlib.Core.Path.{_≡_, refl, sym, ap, _∙_}
+use mathlib.Core.Path.{_≡_, refl, ap, _∙_}
 use mathlib.Core.Bool.{Bool, true, false}
 use mathlib.Core.List.{List, _∷_, _++_, []}
 use native.Mathlib.Decide.{decLe}
@@ -8,10 +8,10 @@ use native.Mathlib.Nat.{le-trans}
 use native.Mathlib.Numerals.{add-one}
 use native.Mathlib.Omega.{arith}
 use lib.Dec.{leb}
-use lib.ListN.{length, take, drop, getD, set, length-set, take-append-drop}
+use lib.ListN.{length, take, drop, getD, set, replicate, length-set, getD-replicate, take-append-drop}
 use lib.Seq.{take-suc, getD-set-same, getD-set-other}
 use borrow.Author.Tests.{leb-true, le-leb}
-use Rattle.slices.specs.Choices.{both, pick}
+use Rattle.slices.specs.Choices.{pick}
 use Rattle.hypervolume.specs.Cells.{holds, dominates, join}
 use Rattle.hypervolume.specs.Counts.{cover}
 use Rattle.hypervolume.specs.Axes.{axes-within}
@@ -27,19 +27,6 @@ pub record Offering (least₀ second₀ t u least second : List ℕ) (axis : ℕ
   pub least-long : length least ≡ 3
   pub second-long : length second ≡ 3
   pub offered : Offered least₀ second₀ t u least second axis
-
-pub offering-none : {least₀ second₀ t u least second : List ℕ} → length least ≡ 3 → length second ≡ 3 → Offering least₀ second₀ t u least second 0
-offering-none e f =
-    record {
-      within = omega arith;
-      least-long = e;
-      second-long = f;
-      offered =
-          record {
-            on-least = λ a l. absurd (let no′ : ⊥ = omega arith in no′);
-            on-second = λ a l. absurd (let no′ : ⊥ = omega arith in no′);
-          };
-    }
 
 -- One more place written.
 set-upto : (f : ℕ → ℕ) (l : List ℕ) (k v : ℕ) → k < length l → v ≡ f k → ((a : ℕ) → a < k → getD l a 0 ≡ f a) → (a : ℕ) → a < k + 1 → getD (set l k v) a 0 ≡ f a
@@ -209,20 +196,17 @@ pub record Bounding (points : List (List ℕ)) (u least second limit : List ℕ)
   pub on : (a : ℕ) → a < length u → TwoLeast (take i points) u a (getD least a 0) (getD second a 0)
   pub limits : Limits (take i points) u limit
 
-pub bounding-none : {points : List (List ℕ)} {u limit : List ℕ} → length u ≡ 3 → limit ≡ join u (1048576 ∷ 1048576 ∷ 1048576 ∷ []) → Bounding points u (1048576 ∷ 1048576 ∷ 1048576 ∷ []) (1048576 ∷ 1048576 ∷ 1048576 ∷ []) limit 0
+pub bounding-none : {points : List (List ℕ)} {u limit : List ℕ} → length u ≡ 3 → limit ≡ join u (replicate 3 1048576) → Bounding points u (replicate 3 1048576) (replicate 3 1048576) limit 0
 bounding-none {points} {u} e f =
     record {
       axes = e;
       within = omega arith;
       on = on;
-      limits = rw f (bounded (1048576 ∷ 1048576 ∷ 1048576 ∷ []) (1048576 ∷ 1048576 ∷ 1048576 ∷ []) on (omega arith));
+      limits = rw f (bounded (replicate 3 1048576) (replicate 3 1048576) on (omega arith));
     }
   where
-    on : (a : ℕ) → a < length u → TwoLeast [] u a (getD (1048576 ∷ 1048576 ∷ 1048576 ∷ []) a 0) (getD (1048576 ∷ 1048576 ∷ 1048576 ∷ []) a 0)
-    on zero l = two-least-none
-    on (suc zero) l = two-least-none
-    on (suc (suc zero)) l = two-least-none
-    on (suc (suc (suc a))) l = absurd (let no′ : ⊥ = omega arith in no′)
+    on : (a : ℕ) → a < length u → TwoLeast [] u a (getD (replicate 3 1048576) a 0) (getD (replicate 3 1048576) a 0)
+    on a l = rw (getD-replicate {A = ℕ} 3 a 1048576 0 (omega arith)) two-least-none
 
 module _ {points : List (List ℕ)} {u least second limit : List ℕ} {i : ℕ} (h : Bounding points u least second limit i) where
   next : i < length points → take (i + 1) points ≡ take i points ++ (getD points i [] ∷ [])

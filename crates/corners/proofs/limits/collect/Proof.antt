@@ -3,7 +3,7 @@ use Prim.Native.Nat.{_-_}
 use lib.ListN.{length}
 use borrow.Author.Count.{falls}
 use borrow.Author.Needs.{needs}
-use Rattle.corners.proofs.limits.CollectLaws.{i-place, m-small, corners-room, places-room, Gathering, gathering-none, gathering-skip, gathering-more, gathering-stop, gathering-end}
+use Rattle.corners.proofs.limits.CollectLaws.{Gathering, gathering-none, gathering-skip, gathering-more, gathering-stop, gathering-end}
 use Rattle.corners.proofs.limits.collect.Statement.{statement}
 use Rattle.corners.proofs.limits.collect.Tie as tie
 
@@ -32,8 +32,9 @@ same-length-2 : tie.Need-same-length-2 Inv-loop μ-loop
 same-length-2 c = c .before .before .before .before .before .loop .inv .places-long
 
 returns : tie.Need-returns Inv-loop μ-loop
-returns c = let read = c .before .before .before in
-    gathering-stop (read .before .before .loop .inv) (search needs) (read .before .loop-test .taken) (read .point-at .ensures) (c .if1 .taken)
+returns c =
+    let read = c .before .before .before in
+    gathering-stop (read .before .before .loop .inv) (read .before .loop-test .taken) (search needs) (read .point-at .ensures) (c .if1 .taken)
 
 dominates-requires : tie.Need-dominates-requires Inv-loop μ-loop
 dominates-requires c κs = search needs
@@ -42,19 +43,16 @@ join-requires : tie.Need-join-requires Inv-loop μ-loop
 join-requires c κs = search needs
 
 put-point-requires : tie.Need-put-point-requires Inv-loop μ-loop
-put-point-requires c κs = let turn = c .before .before .before .before .before .before .before .before in
-    corners-room (turn .before .loop .inv) (turn .loop-test .taken)
+put-point-requires c κs = search needs
 
 cast-places : tie.Need-cast-places Inv-loop μ-loop
-cast-places c = let turn = c .before .before .before .before .before .before .before .before .before .before in
-    i-place (turn .before .loop .inv) (turn .loop-test .taken)
+cast-places c = search needs
 
 mul-places : tie.Need-mul-places Inv-loop μ-loop
 mul-places c = search needs
 
 slice-write-places : tie.Need-slice-write-places Inv-loop μ-loop
-slice-write-places c = let turn = c .before .before .before .before .before .before .before .before .before .before in
-    places-room (turn .before .loop .inv) (turn .loop-test .taken)
+slice-write-places c = search needs
 
 add-m : tie.Need-add-m Inv-loop μ-loop
 add-m c = search needs
@@ -66,7 +64,8 @@ loop-less : tie.Need-loop-less Inv-loop μ-loop
 loop-less c = falls _ _ (c .before .before .before .before .before .before .before .before .before .before .loop-test .taken)
 
 loop-again : tie.Need-loop-again Inv-loop μ-loop
-loop-again c = let tested = c .before .before .before .before .before in
+loop-again c =
+    let tested = c .before .before .before .before .before in
     let read = tested .before .before .before .before in
     gathering-more (read .before .before .loop .inv) (read .before .loop-test .taken) (read .point-at .ensures) (tested .dominates .ensures) (c .before .before .before .before .if2 .taken) (c .before .before .join .ensures) (c .before .put-point .ensures)
 
@@ -77,7 +76,8 @@ loop-less-2 : tie.Need-loop-less-2 Inv-loop μ-loop
 loop-less-2 c = falls _ _ (c .before .before .before .before .before .before .loop-test .taken)
 
 loop-again-2 : tie.Need-loop-again-2 Inv-loop μ-loop
-loop-again-2 c = let tested = c .before in
+loop-again-2 c =
+    let tested = c .before in
     let read = tested .before .before .before .before in
     gathering-skip (read .before .before .loop .inv) (read .before .loop-test .taken) (read .point-at .ensures) (tested .dominates .ensures) (c .if2 .left)
 

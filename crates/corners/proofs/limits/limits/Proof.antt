@@ -42,7 +42,8 @@ axes-within-requires-2 : tie.Need-axes-within-requires-2 Inv-loop μ-loop
 axes-within-requires-2 c κs = search needs
 
 add-if2 : tie.Need-add-if2 Inv-loop μ-loop
-add-if2 c = let a : c .before .axes-within .result ≤ 3 = axes-few _ _ (search needs) (c .before .axes-within .ensures) in
+add-if2 c =
+    let a : c .before .axes-within .result ≤ 3 = axes-few _ _ (search needs) (c .before .axes-within .ensures) in
     let b : c .axes-within2 .result ≤ 3 = axes-few _ _ (search needs) (c .axes-within2 .ensures) in
     omega arith
 
@@ -56,14 +57,16 @@ loop-less : tie.Need-loop-less Inv-loop μ-loop
 loop-less c = falls _ _ (c .before .before .before .before .before .before .before .before .before .before .loop-test .taken)
 
 loop-again : tie.Need-loop-again Inv-loop μ-loop
-loop-again c = let read = c .before .before .before .before .before .before .before .before .before in
+loop-again c =
+    let read = c .before .before .before .before .before .before .before .before .before in
     bounding-more (read .before .before .loop .inv) (read .before .loop-test .taken) (read .point-at .ensures) (c .before .before .with .ensures) (search needs) (c .join2 .ensures)
 
 loop-less-2 : tie.Need-loop-less-2 Inv-loop μ-loop
 loop-less-2 c = falls _ _ (c .before .before .before .before .before .before .before .loop-test .taken)
 
 loop-again-2 : tie.Need-loop-again-2 Inv-loop μ-loop
-loop-again-2 c = let turn = c .before .before .before .before .before .before .before in
+loop-again-2 c =
+    let turn = c .before .before .before .before .before .before .before in
     bounding-skip (turn .before .loop .inv) (turn .loop-test .taken)
 
 returns-2 : tie.Need-returns-2 Inv-loop μ-loop

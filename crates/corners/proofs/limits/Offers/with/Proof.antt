@@ -1,6 +1,6 @@
 -- `Offers::with` meets its contract. The invariant: the axes passed have the two least of the offers.
 use Prim.Native.Nat.{_-_}
-use Rattle.corners.proofs.limits.LimitsLaws.{Offering, offering-none, offering-more, offering-end}
+use Rattle.corners.proofs.limits.LimitsLaws.{Offering, offering-more, offering-end}
 use borrow.Author.Needs.{needs}
 use Rattle.corners.proofs.limits.Offers.with.Statement.{statement}
 use Rattle.corners.proofs.limits.Offers.with.Tie as tie
