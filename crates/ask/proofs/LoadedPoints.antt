@@ -15,7 +15,7 @@ use Rattle.words.specs.Archive.{Trial, point, reference, trials, points}
 use Rattle.words.specs.Layout.{read, read-shape, word}
 use Rattle.words.specs.Format.{archive-rows, coordinates-allowed}
 use Rattle.words.specs.Places.{rows-before}
-use Rattle.words.proofs.Passed.{shape-bounds, coordinates-small}
+use Rattle.words.proofs.Passed.{passed, shape-bounds, coordinates-small}
 use Rattle.calls.specs.Calls.{reference-of, held-points}
 use Rattle.calls.proofs.Known.{count-rows, known}
 use Rattle.records.specs.Columns.{leave-out}
@@ -47,7 +47,7 @@ module _ {w r : List ℕ} {k : ℕ} {ps : List (List ℕ)} (h : Loaded w k ps r)
   loaded-ready {line} {out} l o =
       record {
         sorted = rw (h .held) (loaded-sorted w k (h .passes));
-        reference-small = rw (h .under) (known w (h .passes) .bounds .reference-high);
+        reference-small = rw (h .under) (passed w (h .passes) .bounds .reference-high);
         line-room = omega (arith, h .many);
         room = omega (arith, h .many);
       }

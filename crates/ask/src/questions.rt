@@ -56,7 +56,7 @@ pub fn least(w: &[u64]) -> LeastAnswer
 
 // The place of the record at k among the others of the one at i: one lower where it comes behind it.
 fn place_among(i: usize, k: usize) -> usize
-    requires { ⌜ i ≡ k → ⊥ ⌝ }
+    requires { ⌜ (i ≡ k → ⊥) ⌝ }
     ensures { λ r. ⌜ place-but i r ≡ k ⌝ }
 {
     if i < k { k - 1 } else { k }
@@ -69,13 +69,7 @@ fn joint_at(w: &[u64], i: usize, k: usize) -> u64
 {
     let mut places = [0u16; 512];
     let mut counts = [0u64; 512];
-    let counted = count_joints(
-        w,
-        i,
-        record_at(w, i).point,
-        &mut places,
-        &mut counts,
-    );
+    let counted = count_joints(w, i, record_at(w, i).point, &mut places, &mut counts);
     let m = counted.moved;
     amount_at(&places[..m], &counts[..m], place_among(i, k))
 }

@@ -7,11 +7,12 @@ use mathlib.Core.List.{List}
 use native.Mathlib.Decide.{decLt}
 use native.Mathlib.Numerals.{add-one}
 use native.Mathlib.Omega.{arith}
-use lib.ListN.{length, take, set, getD, replicate, length-set, length-replicate, List·getD-eq-default}
-use lib.Seq.{take-length, length-take-le, getD-take}
-use Rattle.slices.specs.Spread.{spread, Sparse}
-use Rattle.slices.proofs.Spread.{length-spread-zeros, spread-more, spread-other, spread-at, spread-before, zeros-at}
-use Rattle.records.specs.Amounts.{moved, some-pair, Each, Placed, amounts-at}
+use lib.ListN.{length, take, set, getD, replicate, length-set}
+use lib.Seq.{take-length}
+use Rattle.slices.specs.Spread.{spread}
+use Rattle.slices.proofs.Spread.{length-spread-zeros, spread-more, spread-other, spread-before, zeros-at}
+use Rattle.records.specs.Amounts.{moved, some-pair, Placed, amounts-at}
+use Rattle.records.proofs.Placed.{amount-at}
 use Rattle.records.proofs.MovedAmounts.{length-moved, moved-at, moved-set, moved-zeros, some-pair-at, no-pair-at, no-pair-set, no-pair-zeros}
 
 -- The amounts at the first k places.
@@ -41,12 +42,6 @@ module _ {n : ℕ} {places counts : List ℕ} (h : Placed n places counts) where
   first-all k part end =
       ap (λ i. amounts-at n (take i places) (take i counts)) (let e : k ≡ length places = omega arith in e)
       ∙ ap₂ (amounts-at n) (take-length places) (ap (λ i. take i counts) (sym (h .many)) ∙ take-length counts)
-
-  -- the k-th of all amounts
-  pub amount-at : (k : ℕ) → k < length places → getD (amounts-at n places counts) (getD places k 0) 0 ≡ getD counts k 0
-  amount-at k l =
-      spread-at (replicate n 0) places counts k (h .many) (h .rising) l
-      (let size : length {A = ℕ} (replicate n 0) ≡ n = length-replicate n 0 in let there : getD places k 0 < n = h .inside k l in omega arith)
 
 -- No pair at the first k places passes the test.
 pub record Judging (test : ℕ → ℕ → Bool) (vs : List ℕ) (n : ℕ) (places counts : List ℕ) (k : ℕ) : Type 0 where
@@ -157,31 +152,6 @@ no-pair-here test vs {n} {places} {counts} k size h none l =
     let inside : getD places k 0 < n = h .inside k l in
     ap (test (getD vs (getD places k 0) 0)) (sym (amount-at h k l))
     ∙ no-pair-at test vs (amounts-at n places counts) (getD places k 0) (length-spread-zeros n places counts ∙ sym size) (omega arith) none
-
--- No count is above the limit where no amount is.
-pub counts-low : {n : ℕ} {places counts : List ℕ} (limit : ℕ) → Placed n places counts → Each (amounts-at n places counts) limit → Each counts limit
-counts-low {n} {places} {counts} limit h low k = go (decLt k (length places))
-  where
-    go : Dec (k < length places) → getD counts k 0 ≤ limit
-    go (yes l) = omega (arith, amount-at h k l, low (getD places k 0))
-    go (no l) =
-        let many : length counts ≡ length places = h .many in
-        let none : getD counts k 0 ≡ 0 = List·getD-eq-default counts 0 (let m : length counts ≤ k = omega arith in m) in
-        omega arith
-
--- The first m places and numbers of a list that they say, as these functions take them.
-pub sparse-placed : {n : ℕ} {all places numbers : List ℕ} {m : ℕ} → Sparse n all places numbers m → m ≤ length places → m ≤ length numbers
-    → Placed n (take m places) (take m numbers)
-sparse-placed {n} {all} {places} {numbers} {m} h l₁ l₂ =
-    let size : length (take m places) ≡ m = length-take-le m places l₁ in
-    record {
-      many = length-take-le m numbers l₂ ∙ sym size;
-      inside = λ k l. rw (getD-take m places k 0 (let s : k < m = omega arith in s)) (h .inside k (omega arith));
-      rising =
-          λ k l.
-          rw (getD-take m places k 0 (let s : k < m = omega arith in s), getD-take m places (suc k) 0 (let s : suc k < m = omega arith in s))
-          (h .rising k (omega arith));
-    }
 
 -- The search for a place: it is none of the first k.
 pub record Missed (places : List ℕ) (place k : ℕ) : Type 0 where
