@@ -4,6 +4,7 @@ use ask::audited;
 use calls::Answer;
 use records::least_place;
 use slices::copy;
+use words::record_at;
 use words::refusal;
 ghost use mathlib.Core.Path.{_≡_};
 ghost use mathlib.Core.List.{_++_};
@@ -41,7 +42,8 @@ fn drop_least(w: &mut [u64], log: &mut [u64], at: usize)
 {
     let n = w[0] as usize;
     let place = least_place(w, n);
-    let note = [w[8 + 5 * place], w[12 + 5 * place]];
+    let least = record_at(w, place);
+    let note = [least.number, least.kept];
     copy(&note, log, at);
     take_out(w, place);
 }
