@@ -4,7 +4,6 @@ use ask::audited;
 use calls::Answer;
 use records::least_place;
 use slices::copy;
-use words::record_at;
 use words::refusal;
 ghost use mathlib.Core.Path.{_≡_};
 ghost use mathlib.Core.List.{_++_};
@@ -42,8 +41,7 @@ fn drop_least(w: &mut [u64], log: &mut [u64], at: usize)
 {
     let n = w[0] as usize;
     let place = least_place(w, n);
-    let least = record_at(w, place);
-    let note = [least.number, least.kept];
+    let note = [w[8 + 5 * place], w[12 + 5 * place]];
     copy(&note, log, at);
     take_out(w, place);
 }

@@ -3,14 +3,16 @@ use Prim.Native.Nat.{ℕ, zero, suc, _+_, _*_, _≤_, _<_}
 use mathlib.Core.Path.{_≡_, refl, sym, ap, ap₂, _∙_, subst}
 use mathlib.Core.Bool.{true, false}
 use mathlib.Core.List.{List, _∷_, _++_, append-assoc, append-nil, []}
+use native.Mathlib.Nat.{add-zero}
 use native.Mathlib.Numerals.{add-one}
 use native.Mathlib.Omega.{arith}
 use lib.ListN.{length, getD}
+use lib.Seq.{getD-drop}
 use Rattle.slices.specs.Put.{put}
 use Rattle.slices.proofs.Put.{put-none, put-then}
 use Rattle.words.specs.Archive.{Row, Archive, trials}
 use Rattle.slices.specs.Choices.{pick}
-use Rattle.words.specs.Layout.{word, layout, read, behind}
+use Rattle.words.specs.Layout.{word, layout, read, read-row, behind}
 use Rattle.words.specs.Format.{archive-rows, held}
 use Rattle.words.specs.Places.{row-at, rows-before}
 use Rattle.words.proofs.Reading.{read-layout, behind-layout}
@@ -43,11 +45,16 @@ drop-done w left n place p c en l is e =
     ∙ ap (λ (r : Row). layout (removed (read w) (r .trial .number)) ++ behind w) (is ∙ ap (λ i. least-row (rows-before w i)) en)
 
 -- The note of that drop.
-pub note-written : (w log : List ℕ) (n place at : ℕ) (r : Row) → n ≡ word w 0 → r ≡ row-at w place → row-at w place ≡ least-row (rows-before w n)
-    → put log at (r .trial .number ∷ r .kept ∷ []) ≡ put log at (note (read w))
-unfolding note read
-note-written w log n place at r en er is =
-    ap (λ (s : Row). put log at (s .trial .number ∷ s .kept ∷ [])) (er ∙ is ∙ ap (λ i. least-row (rows-before w i)) en)
+pub note-written : (w log : List ℕ) (n place at : ℕ) → n ≡ word w 0 → row-at w place ≡ least-row (rows-before w n)
+    → put log at (getD w (8 + 5 * place) 0 ∷ getD w (12 + 5 * place) 0 ∷ []) ≡ put log at (note (read w))
+unfolding note read row-at read-row
+note-written w log n place at en is =
+    let same : row-at w place ≡ least-row (rows-before w (word w 0)) = is ∙ ap (λ i. least-row (rows-before w i)) en in
+    let number : getD w (8 + 5 * place) 0 ≡ least-row (rows-before w (word w 0)) .trial .number =
+    ap (λ i. getD w i 0) (sym (add-zero (8 + 5 * place))) ∙ sym (getD-drop (8 + 5 * place) w 0 0) ∙ ap (λ (r : Row). r .trial .number) same in
+    let kept : getD w (12 + 5 * place) 0 ≡ least-row (rows-before w (word w 0)) .kept =
+    ap (λ i. getD w i 0) (let s : 12 + 5 * place ≡ 8 + 5 * place + 4 = omega arith in s) ∙ sym (getD-drop (8 + 5 * place) w 4 0) ∙ ap (λ (r : Row). r .kept) same in
+    ap₂ (λ a b. put log at (a ∷ b ∷ [])) number kept
 
 -- One drop more, at the end.
 drops-more : (i : ℕ) (a : Archive) → after-drops (suc i) a ≡ dropped (after-drops i a)
