@@ -13,8 +13,8 @@ use Rattle.sweep.specs.Points.{Small, Ready}
 use Rattle.words.specs.Archive.{Trial, Row, Shape, point, reference, trials, points, before}
 use Rattle.words.specs.Layout.{record-words, read-row, read, read-shape, word}
 use Rattle.words.specs.Format.{archive-rows, row-allowed, rows-allowed, ordered, distinct, coordinates-allowed}
-use Rattle.words.specs.Places.{rows-before}
-use Rattle.words.proofs.Passed.{passed, ShapeBounds, RowBounds, row-bounds, shape-bounds, coordinates-small}
+use Rattle.words.specs.Places.{rows-before, row-at}
+use Rattle.words.proofs.Passed.{passed, ShapeBounds, RowBounds, row-bounds, shape-bounds, passed-row, coordinates-small}
 use Rattle.slices.specs.Put.{put}
 use Rattle.slices.proofs.Put.{put-front}
 use Rattle.calls.specs.Calls.{others}

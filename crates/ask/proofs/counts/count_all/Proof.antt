@@ -1,5 +1,5 @@
 -- `count_all` meets its contract: three columns are loaded, and the sweep counts them.
-use mathlib.Core.Path.{sym}
+use mathlib.Core.Path.{ap, sym, _∙_}
 use native.Mathlib.Nat.{le-refl}
 use native.Mathlib.Omega.{arith}
 use lib.Seq.{length-take-le}

@@ -1,7 +1,8 @@
 -- `count_joints` meets its contract: three columns are loaded, and the update counts them.
-use mathlib.Core.Path.{sym}
+use mathlib.Core.Path.{ap, sym, _∙_}
 use native.Mathlib.Omega.{arith}
 use lib.Seq.{length-take-le}
+use Rattle.calls.proofs.Known.{known}
 use Rattle.ask.proofs.LoadedPoints.{columns, columns-are-ready, joints-counted}
 use borrow.Author.Needs.{needs}
 use Rattle.ask.proofs.counts.count_joints.Statement.{statement}
