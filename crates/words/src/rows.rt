@@ -27,7 +27,7 @@ impl Row {
     }
 }
 
-// A record that rows 2 and 3 have let pass: its trial number, its point and its kept contribution.
+// A record that rows 2 and 3 have let pass.
 pub struct Record {
     pub number: u64,
     pub point: Point,
@@ -35,6 +35,7 @@ pub struct Record {
 }
 
 impl Record {
+    // The numbers that the archive's order goes by.
     pub fn key(self) -> [u64; 4]
         ensures { λ r. ⌜ r ≡ key (as-record self .trial) ⌝ }
     {
@@ -51,7 +52,7 @@ pub struct Shape {
     pub rz: u64,
 }
 
-// The record at place i.
+// The five words at place i.
 pub fn row_at(w: &[u64], i: usize) -> Row
     requires { ⌜ 8 + 5 * (i + 1) ≤ length (now w) ⌝ }
     ensures { λ r. ⌜ as-row r ≡ row-at (now (w .entry)) i ⌝ }
