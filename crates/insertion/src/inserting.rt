@@ -2,10 +2,9 @@
 use ask::count_joints;
 use hypervolume::Point;
 use records::Moved;
+use records::enough;
 use records::enter_at;
-use records::keep;
-use records::load;
-use records::lower;
+use records::lower_at;
 use records::rank;
 use words::Record;
 use words::Row;
@@ -21,7 +20,7 @@ ghost use mathlib.Core.List.{_++_};
 ghost use Prim.Native.Nat.{ℕ, _≤_};
 ghost use lib.ListN.{length};
 ghost use Rattle.slices.specs.Choices.{pick};
-ghost use Rattle.sweep.specs.Points.{Small};
+ghost use Rattle.hypervolume.specs.Sorted.{Small};
 ghost use Rattle.words.specs.Layout.{layout, read, behind};
 ghost use Rattle.words.specs.Format.{guard, archive-rows};
 ghost use Rattle.words.specs.Places.{as-row, as-trial};
@@ -50,29 +49,33 @@ fn admission(w: &[u64], row: Row) -> u64
     0
 }
 
-// The gain of the new trial and, in `kept`, each contribution less its joint count with it, where these stay from 0 to
-// the box (row 13).
-fn lowered(w: &[u64], p: Point, kept: &mut [u64]) -> Moved
-    requires { ⌜ (archive-rows (now w) 0 ≡ 0) × Small (p .at) × (512 ≤ length (now kept)) ⌝ }
-    ensures { λ r. ⌜ ((number : ℕ) → InsertAmounts (now (w .entry)) (as-trial number (p .at)) (now (kept .exit)) r) ⌝ }
+// The gain of the new trial, and its joint counts with the records at the places that have one; whether total and
+// contributions, moved by these, stay from 0 to the box (row 13).
+fn judge(w: &[u64], p: Point, places: &mut [u16], counts: &mut [u64]) -> Moved
+    requires { ⌜ (archive-rows (now w) 0 ≡ 0) × Small (p .at) × (512 ≤ length (now places)) × (512 ≤ length (now counts)) ⌝ }
+    ensures { λ r. ⌜ ((number : ℕ) → InsertAmounts (now (w .entry)) (as-trial number (p .at)) (now (places .exit)) (now (counts .exit)) r) ⌝ }
 {
     let n = w[0] as usize;
-    let mut joints = [0u64; 512];
-    let gain = count_joints(w, n, p, &mut joints);
-    load(w, n, 4, n, kept);
-    if box_of(reference_of(w)) < w[5] + gain {
+    let counted = count_joints(w, n, p, places, counts);
+    let m = counted.moved;
+    if box_of(reference_of(w)) < w[5] + counted.gain {
         return Moved {
-            amount: gain,
+            amount: counted.gain,
+            places: m,
             fits: false,
         };
     }
-    let fits = lower(&mut kept[..n], &joints[..n]);
-    Moved { amount: gain, fits }
+    let fits = enough(w, n, &places[..m], &counts[..m]);
+    Moved {
+        amount: counted.gain,
+        places: m,
+        fits,
+    }
 }
 
 // Writes the others' contributions, the new record and the header.
-fn store(w: &mut [u64], number: u64, p: Point, gain: u64, kept: &[u64])
-    requires { ⌜ InsertReady (now w) (as-trial number (p .at)) gain (now kept) ⌝ }
+fn store(w: &mut [u64], number: u64, p: Point, gain: u64, places: &[u16], counts: &[u64])
+    requires { ⌜ InsertReady (now w) (as-trial number (p .at)) gain (now places) (now counts) ⌝ }
     ensures { λ _. ⌜ now (w .exit) ≡ layout (inserted (read (now (w .entry))) (as-trial number (p .at))) ++ behind (now (w .entry)) ⌝ }
 {
     let n = w[0] as usize;
@@ -83,7 +86,7 @@ fn store(w: &mut [u64], number: u64, p: Point, gain: u64, kept: &[u64])
     };
     let total = w[5] + gain;
     let k = rank(w, n, new);
-    keep(w, n, kept);
+    lower_at(w, n, places, counts);
     enter_at(w, n, k, new);
     w[0] = (n + 1) as u64;
     w[5] = total;
@@ -95,13 +98,14 @@ fn put_in(w: &mut [u64], number: u64, p: Point) -> u64
     ensures answer { λ r. ⌜ r ≡ guard (insert-overruns (read (now (w .entry))) (as-trial number (p .at))) 13 0 ⌝ }
     ensures words { λ r. ⌜ now (w .exit) ≡ pick (insert-overruns (read (now (w .entry))) (as-trial number (p .at))) (now (w .entry)) (layout (inserted (read (now (w .entry))) (as-trial number (p .at))) ++ behind (now (w .entry))) ⌝ }
 {
-    let n = w[0] as usize;
-    let mut kept = [0u64; 512];
-    let moved = lowered(w, p, &mut kept);
+    let mut places = [0u16; 512];
+    let mut counts = [0u64; 512];
+    let moved = judge(w, p, &mut places, &mut counts);
     if !moved.fits {
         return 13;
     }
-    store(w, number, p, moved.amount, &kept[..n]);
+    let m = moved.places;
+    store(w, number, p, moved.amount, &places[..m], &counts[..m]);
     0
 }
 

@@ -1,5 +1,5 @@
--- Insertion insertion-stored: contributions lowered, the new record entered, the header written.
-use Prim.Native.Nat.{ℕ, suc, _+_, _*_, _≤_, _<_}
+-- An insertion stored: contributions lowered, the new record entered, the header written.
+use Prim.Native.Nat.{ℕ, suc, _+_, _-_, _*_, _≤_, _<_}
 use mathlib.Core.Path.{_≡_, refl, sym, ap, ap₂, _∙_}
 use mathlib.Core.Bool.{true, false}
 use mathlib.Core.List.{List, _∷_, _++_, map, append-nil, []}
@@ -26,22 +26,12 @@ use borrow.Author.Tests.{not-true, not-false, ltb-false}
 use Rattle.slices.proofs.Choices.{either-false}
 use Rattle.words.specs.Format.{archive-rows}
 use Rattle.records.specs.declared.amounts.Moved.{Moved}
-use Rattle.records.specs.Amounts.{shares}
+use Rattle.records.specs.Amounts.{moved, some-pair, amounts-at}
 use Rattle.insertion.specs.Inserting.{InsertAmounts, InsertReady}
-use Rattle.records.proofs.Columns.{length-column}
-use Rattle.records.proofs.MovedAmounts.{length-shares, lowered-rows, length-moved}
+use Rattle.records.proofs.MovedAmounts.{lowered-rows, falls-below-pairs}
 
--- InsertReady an insertion: lengths and sums fit, and the words left are the new layout.
-pub storing-long : {w : List ℕ} {t : Trial} {g : ℕ} {kept : List ℕ} → InsertReady w t g kept → length kept ≡ word w 0
-storing-long {w} {t} h =
-    let even : length (shares (read w) t (read w .rows)) ≡ length (column 4 (read w .rows)) =
-    length-shares (read w) t (read w .rows) ∙ sym (length-column 4 (read w .rows)) in
-    ap length (h .values)
-    ∙ length-moved _ (column 4 (read w .rows)) (shares (read w) t (read w .rows)) even
-    ∙ length-column 4 (read w .rows)
-    ∙ count-rows w
-
-pub storing-fits : {w : List ℕ} {t : Trial} {g : ℕ} {kept : List ℕ} → InsertReady w t g kept → word w 5 + g ≤ 1152921504606846976
+-- Storing an insertion: sums fit, and the words left are the new layout.
+pub storing-fits : {w : List ℕ} {t : Trial} {g : ℕ} {places counts : List ℕ} → InsertReady w t g places counts → word w 5 + g ≤ 1152921504606846976
 unfolding read
 storing-fits {w} h = omega (arith, h .whole, known w (h .passes))
 
@@ -92,34 +82,37 @@ insert-stored w w₁ w₂ w₃ vs t k h l ranked lower e₁ e₂ e₃ =
     Stored.stored w h w₂ w₃ (inserted a t) (word w 0 + 1) 0 refl grown (omega arith) (omega arith)
     (second ∙ ap (put w 8) (sym (append-nil (records new)))) e₃
 
-pub insertion-stored : (w w₁ w₂ w₃ kept : List ℕ) (t : Trial) (g k : ℕ) → InsertReady w t g kept
+pub insertion-stored : (w w₁ w₂ w₃ places counts : List ℕ) (t : Trial) (g k : ℕ) → InsertReady w t g places counts
     → k ≡ rank-of t (trials (rows-before w (word w 0)))
-    → w₁ ≡ put w 8 (records (rekept (rows-before w (word w 0)) kept))
+    → w₁ ≡ put w 8 (records (rekept (rows-before w (word w 0)) (moved (λ v m. v - m) (column 4 (rows-before w (word w 0))) (amounts-at (word w 0) places counts))))
     → w₂ ≡ put w₁ 8 (records (take k (rows-before w₁ (word w 0)) ++ (record { trial = t; kept = g } ∷ drop k (rows-before w₁ (word w 0)))))
     → w₃ ≡ set (set w₂ 0 (word w 0 + 1)) 5 (word w 5 + g)
     → w₃ ≡ layout (inserted (read w) t) ++ behind w
-insertion-stored w w₁ w₂ w₃ kept t g k h ranked e₁ e₂ e₃ =
-    insert-stored w w₁ w₂ w₃ kept t k (passed w (h .passes)) (h .free) ranked
-    (ap (rekept (read w .rows)) (h .values) ∙ lowered-rows (read w) t (read w .rows)) e₁
+unfolding read
+insertion-stored w w₁ w₂ w₃ places counts t g k h ranked e₁ e₂ e₃ =
+    insert-stored w w₁ w₂ w₃ _ t k (passed w (h .passes)) (h .free) ranked
+    (ap (λ l. rekept (read w .rows) (moved (λ v m. v - m) (column 4 (read w .rows)) l)) (h .lowers .shared) ∙ lowered-rows (read w) t (read w .rows)) e₁
     (e₂ ∙ ap (λ x. put w₁ 8 (records (take k (rows-before w₁ (word w 0)) ++ (record { trial = t; kept = x } ∷ drop k (rows-before w₁ (word w 0)))))) (h .gained))
     (e₃ ∙ ap (λ k. set (set w₂ 0 (word w 0 + 1)) 5 (word w 5 + k)) (h .gained))
 
 -- Row 13, or what storing asks.
-module _ {w : List ℕ} {t : Trial} {after : List ℕ} {m : Moved} (h : InsertAmounts w t after m) where
+module _ {w : List ℕ} {t : Trial} {places counts : List ℕ} {m : Moved} (h : InsertAmounts w t places counts m) where
   pub overruns : m .fits ≡ false → insert-overruns (read w) t ≡ true
   overruns e = not-false _ (sym (h .judged) ∙ e)
 
   pub fits-box : m .fits ≡ true → insert-overruns (read w) t ≡ false
   fits-box e = not-true _ (sym (h .judged) ∙ e)
 
-  pub storing : archive-rows w 0 ≡ 0 → word w 0 < word w 1 → m .fits ≡ true → InsertReady w t (m .amount) (take (word w 0) after)
+  pub storing : archive-rows w 0 ≡ 0 → word w 0 < word w 1 → m .fits ≡ true → InsertReady w t (m .amount) (take (m .places) places) (take (m .places) counts)
   unfolding insert-overruns read
   storing p f e =
-      let within-box : ltb (box-of (read w)) (word w 5 + insert-gain (read w) t) ≡ false = either-false _ _ (fits-box e) .0 in
+      let parts = either-false _ _ (fits-box e) in
+      let within-box : ltb (box-of (read w)) (word w 5 + insert-gain (read w) t) ≡ false = parts .0 in
       record {
         passes = p;
         free = f;
         gained = h .gained;
         whole = rw (h .gained) (ltb-false (box-of (read w)) (word w 5 + insert-gain (read w) t) within-box);
-        values = h .moved-down e;
+        lowers = h .lowers;
+        enough = ap (some-pair (λ v m. ltb v m) (column 4 (read w .rows))) (h .lowers .shared) ∙ sym (falls-below-pairs (read w) t (read w .rows)) ∙ parts .1;
       }

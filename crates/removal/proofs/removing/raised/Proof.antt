@@ -6,7 +6,7 @@ use native.Mathlib.Omega.{arith}
 use lib.ListN.{getD}
 use lib.Seq.{length-take-le}
 use Rattle.hypervolume.specs.Cells.{box}
-use Rattle.sweep.specs.Points.{Small}
+use Rattle.hypervolume.specs.Sorted.{Small}
 use Rattle.words.specs.Archive.{point}
 use Rattle.words.proofs.Passed.{reference-small}
 use Rattle.words.specs.Layout.{read}
