@@ -2,4 +2,5 @@
 pub mod Card
 pub mod Check
 pub mod Verdict
+pub mod Further
 pub mod Theorems
