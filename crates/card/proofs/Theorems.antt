@@ -1,5 +1,5 @@
 -- The proofs of what specs/Theorems states.
-use Prim.Native.Nat.{ℕ, _*_, _≤_, min}
+use Prim.Native.Nat.{ℕ, _*_, _≤_}
 use mathlib.Core.Path.{_≡_, refl, sym, ap, _∙_}
 use mathlib.Core.List.{List, _++_}
 use native.Mathlib.Omega.{arith}
@@ -88,9 +88,7 @@ row-1 v e = rw e
 pub cards-check : (w card : List ℕ) → Checks w card
 cards-check w card =
     record {
-      long-enough = λ long.
-          let least : min (length w) (extent 512) ≡ extent 512 = omega arith in
-          check-judged w card (ap (λ n. judge n (lines card)) (sym least) ∙ verdicts.judge-enough (length w) (lines card));
+      long-enough = λ long. check-judged w card (verdicts.judge-enough (length w) (lines card) long);
       unless-row-1 = λ other.
           check-judged w card
           (verdicts.judge-unless-short (length w) (lines card)

@@ -1,5 +1,5 @@
 -- Laws of the verdict on a card's lines: which rows turn it down, and what it does not depend on.
-use Prim.Native.Nat.{ℕ, zero, suc, _+_, _*_, _≤_, min}
+use Prim.Native.Nat.{ℕ, zero, suc, _+_, _*_, _≤_}
 use mathlib.Core.Path.{_≡_, refl, ap}
 use mathlib.Core.Bool.{Bool, true, false, not}
 use mathlib.Core.List.{List, _∷_, []}
@@ -7,8 +7,7 @@ use mathlib.Core.Option.{Option, none, some}
 use native.Mathlib.Omega.{arith}
 use lib.Dec.{ltb}
 use lib.ListN.{length, take}
-use borrow.Author.Tests.{lt-ltb, le-ltb}
-use Rattle.hypervolume.proofs.Tests.{Compared, below, above, compared}
+use borrow.Author.Tests.{le-ltb}
 use Rattle.text.specs.Lines.{Numbers}
 use Rattle.words.specs.Archive.{Archive}
 use Rattle.words.specs.Layout.{extent}
@@ -71,27 +70,21 @@ possible long (some v ∷ ls) =
     shape-possible _ _ _ (λ e. further-possible (empty (shape-on v)) (empty-fair (shape-on v) (shape-passed long (shape-on v) e)) ls)
 
 -- A slice that is long enough for every capacity is as good as a longer one.
-enough : (p : Bool) (long capacity : ℕ) → (p ≡ true → capacity ≤ 512)
-    → guard (not p) 4 (guard (ltb (min long (extent 512)) (extent capacity)) 1 0) ≡ guard (not p) 4 (guard (ltb long (extent capacity)) 1 0)
+enough : (p : Bool) (long capacity : ℕ) → extent 512 ≤ long → (p ≡ true → capacity ≤ 512)
+    → guard (not p) 4 (guard (ltb (extent 512) (extent capacity)) 1 0) ≡ guard (not p) 4 (guard (ltb long (extent capacity)) 1 0)
 unfolding guard extent
-enough false long capacity most = refl
-enough true long capacity most = go (ltb long (8 + 5 * capacity)) (compared (suc long) (8 + 5 * capacity))
-  where
-    bound : capacity ≤ 512
-    bound = most refl
+enough false long capacity l most = refl
+enough true long capacity l most =
+    let bound : capacity ≤ 512 = most refl in
+    rw (le-ltb 2568 (8 + 5 * capacity) (omega arith), le-ltb long (8 + 5 * capacity) (omega arith))
 
-    go : (t : Bool) → Compared (suc long) (8 + 5 * capacity) t
-        → guard (ltb (min long 2568) (8 + 5 * capacity)) 1 0 ≡ guard t 1 0
-    go true (below l) = rw (lt-ltb (min long 2568) (8 + 5 * capacity) (omega (arith, bound)))
-    go false (above l) = rw (le-ltb (min long 2568) (8 + 5 * capacity) (omega (arith, bound)))
-
-pub judge-enough : (long : ℕ) (ls : List (Option Numbers)) → judge (min long (extent 512)) ls ≡ judge long ls
+pub judge-enough : (long : ℕ) (ls : List (Option Numbers)) → extent 512 ≤ long → judge (extent 512) ls ≡ judge long ls
 unfolding judge start-rows
-judge-enough long [] = refl
-judge-enough long (none ∷ ls) = refl
-judge-enough long (some v ∷ ls) =
+judge-enough long [] l = refl
+judge-enough long (none ∷ ls) l = refl
+judge-enough long (some v ∷ ls) l =
     ap (λ k. in-turn k 1 (judge-further (empty (shape-on v)) ls))
-    (enough (shape-allowed (shape-on v)) long (shape-on v .capacity) (λ e. shape-bounds (shape-on v) e .capacity-high))
+    (enough (shape-allowed (shape-on v)) long (shape-on v .capacity) l (λ e. shape-bounds (shape-on v) e .capacity-high))
 
 -- A line that is refused, and one that is let in.
 pub in-turn-refused : (k line : ℕ) (rest : Verdict) → (k ≡ 0 → ⊥) → in-turn k line rest ≡ refusal k line

@@ -1,6 +1,6 @@
 -- What a card comes to, said of archives and not of words (document 01, "Where each call is turned down"): "A card's
--- lines are judged in turn: form (15), then on line 1 rows 4 and 1 (slice length only), on others 5 to 8." Theorems
--- says that loading comes to just this.
+-- lines are judged in turn: form (15), then on line 1 rows 4 and 1 (slice length only), on others 5 to 8." A card is
+-- judged so before it is loaded, and Theorems says that loading comes to just this.
 use Prim.Native.Nat.{ℕ, zero, suc, _+_}
 use mathlib.Core.List.{List, _∷_, _++_, []}
 use mathlib.Core.Option.{Option, none, some}
@@ -30,7 +30,7 @@ judge-further a (none ∷ ls) = refusal 15 (length (a .rows) + 2)
 judge-further a (some v ∷ ls) =
     in-turn (admission-rows a (trial-on v) 0) (length (a .rows) + 2) (judge-further (inserted a (trial-on v)) ls)
 
--- The lines of a card, for a slice of this length.
+-- The lines of a card, for a slice of this length. The rows of line 1 are those of start.
 unfoldable pub judge : ℕ → List (Option Numbers) → Verdict
 judge long [] = refusal 15 1
 judge long (none ∷ ls) = refusal 15 1

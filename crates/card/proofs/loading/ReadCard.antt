@@ -1,15 +1,11 @@
 -- Laws of the loading of a card: a line's call, and the loop over the further lines.
-use Prim.Native.Nat.{ℕ, zero, suc, _+_, _-_, _*_, _≤_, _<_}
+use Prim.Native.Nat.{ℕ, zero, suc, _+_, _-_, _*_, _≤_}
 use mathlib.Core.Path.{_≡_, refl, sym, ap, _∙_}
-use mathlib.Core.Bool.{Bool, true, false}
 use mathlib.Core.List.{List, _∷_, []}
-use mathlib.Core.Option.{Option, none, some}
+use mathlib.Core.Option.{Option, none}
 use native.Mathlib.Omega.{arith}
-use lib.Dec.{ltb}
 use lib.ListN.{length, drop}
-use Rattle.slices.specs.Choices.{pick}
-use Rattle.hypervolume.proofs.Tests.{Compared, below, above, compared}
-use Rattle.text.specs.Lines.{Numbers, line-from, numbers-of}
+use Rattle.text.specs.Lines.{Numbers, numbers-of}
 use Rattle.text.specs.declared.Line.{Line}
 use Rattle.text.specs.declared.Line.the-variants.{Values, Malformed}
 use Rattle.calls.specs.Lent.{Outcome, shape-of, trial-of, start, insert}

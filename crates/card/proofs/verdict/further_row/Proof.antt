@@ -1,8 +1,5 @@
 -- `card::verdict::further_row` meets its contract: row 15, or rows 5 to 8 in turn.
-use mathlib.Core.Path.{_≡_, sym, ap, _∙_}
-use mathlib.Core.Option.{some}
 use borrow.Author.Needs.{needs}
-use Rattle.text.specs.Lines.{numbers-of}
 use Rattle.card.specs.Card.{trial-on}
 use Rattle.card.specs.Further.{number-due, further-rows}
 use Rattle.card.proofs.verdict.further_row.Statement.{statement}
@@ -42,7 +39,18 @@ guard-requires-4 c κs = search needs
 
 returns-2 : tie.Need-returns-2
 unfolding further-rows number-due trial-on
-returns-2 c = rw (c .before .before .before .before .before .before .before .before .before .l .given .1) cc
+returns-2 c =
+    let at-held = c .before .before .before .before .before in
+    rw (
+      at-held .before .before .before .before .l .given .1,
+      c .guard4 .ensures,
+      c .before .guard3 .ensures,
+      c .before .before .guard2 .ensures,
+      c .before .before .before .guard .ensures,
+      at-held .held .ensures,
+      at-held .before .coordinates-allowed .ensures,
+      at-held .before .before .number-allowed .ensures,
+    )
 
 pub further-row-spec : {M : Type 1} → statement M
 further-row-spec =
