@@ -121,7 +121,7 @@ fn follows(w: &[u64], i: usize) -> bool
 }
 
 // Notes the number in the table, and says whether its bit was set before.
-fn mark(table: &mut [u64], number: u64) -> bool
+pub fn mark(table: &mut [u64], number: u64) -> bool
     requires { ⌜ length (now table) ≡ 1024 ⌝ }
     ensures { λ r. ⌜ r ≡ marked (now (table .entry)) number ⌝ }
     ensures { λ r. ⌜ Marking (now (table .entry)) (now (table .exit)) number ⌝ }

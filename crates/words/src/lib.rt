@@ -6,6 +6,7 @@ mod rows;
 pub use check::ascends;
 pub use check::box_of;
 pub use check::coordinates_allowed;
+pub use check::mark;
 pub use check::number_allowed;
 pub use check::refusal;
 pub use check::shape_allowed;
