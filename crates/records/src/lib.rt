@@ -16,6 +16,7 @@ pub use amounts::some_differs;
 pub use amounts::within;
 pub use places::enter_at;
 pub use places::least_place;
+pub use places::put_record;
 pub use places::rank;
 pub use places::strike;
 pub use strides::keep;
