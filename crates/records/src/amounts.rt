@@ -158,8 +158,10 @@ pub fn amount_at(places: &[u16], counts: &[u64], place: usize) -> u64
     0
 }
 
-// What an update came to: the new or removed trial's counted amount, and whether every number stays from 0 to the box.
+// What an update came to: the new or removed trial's counted amount, how many places have the others' amounts, and whether
+// every number stays from 0 to the box.
 pub struct Moved {
     pub amount: u64,
+    pub places: usize,
     pub fits: bool,
 }
