@@ -33,13 +33,13 @@ array-share-prefix-places : tie.Need-array-share-prefix-places
 array-share-prefix-places c = omega (arith, few (c .before .before .before .before .before), c .before .before .before .before .before .raised .kept)
 
 slice-aggregate-store : tie.Need-slice-aggregate-store
-slice-aggregate-store c = sym (length-take-le _ _ (omega (arith, few (c .before .before .before .before .before .before), c .before .before .before .before .before .before .raised .kept)))
+slice-aggregate-store c = sym (length-take-le _ (c .before .before .before .before .before .before .raised .last .1 .1 .0) (omega (arith, few (c .before .before .before .before .before .before), c .before .before .before .before .before .before .raised .kept)))
 
 array-share-prefix-counts : tie.Need-array-share-prefix-counts
 array-share-prefix-counts c = omega (arith, few (c .before .before .before .before .before .before), c .before .before .before .before .before .before .raised .kept)
 
 slice-aggregate-store-2 : tie.Need-slice-aggregate-store-2
-slice-aggregate-store-2 c = sym (length-take-le _ _ (omega (arith, few (c .before .before .before .before .before .before .before), c .before .before .before .before .before .before .before .raised .kept)))
+slice-aggregate-store-2 c = sym (length-take-le _ (c .before .before .before .before .before .before .before .raised .last .1 .1 .1 .0) (omega (arith, few (c .before .before .before .before .before .before .before), c .before .before .before .before .before .before .before .raised .kept)))
 
 store-requires : tie.Need-store-requires
 store-requires c κs = striking (c .before .before .before .before .before .before .before .raised .ensures) (c .before .before .before .before .before .before .before .before .before .before .before .before .pre .0) (search needs) (search needs) (c .before .before .before .before .before .before .before .before .before .before .before .before .pre .1) (not-false _ (c .before .before .before .if1 .left))
