@@ -158,7 +158,7 @@ pub fn amount_at(places: &[u16], counts: &[u64], place: usize) -> u64
     0
 }
 
-// What an update came to: the new or removed trial's counted amount, how many places have the others' amounts, and whether
+// What an update came to: the new or removed trial's counted amount, how many places have an amount of their own, and whether
 // every number stays from 0 to the box.
 pub struct Moved {
     pub amount: u64,
