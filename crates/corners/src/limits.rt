@@ -53,8 +53,7 @@ impl Offers {
 }
 
 // The limit on each axis: the second least coordinate of the corners that equal u on all others. Only a point within the
-// limits so far and at most u on two axes can lower one, that is, a point that passes five of six tests. The points
-// ascend on z, so past the limit on z none does.
+// limits so far and at most u on two axes can lower one. The points ascend on z, so past the limit on z none does.
 pub fn limits(points: &[[u32; 3]], u: Point) -> Point
     ensures { λ r. ⌜ Limits (now (points .entry)) (u .at) (r .at) ⌝ }
 {
@@ -72,10 +71,12 @@ pub fn limits(points: &[[u32; 3]], u: Point) -> Point
             return limit;
         }
         i = i + 1;
-        if 5 <= t.axes_within(u) + t.axes_within(limit) {
-            offers = offers.with(t, u);
-            let second = offers.second;
-            limit = u.join(Point { at: second });
+        if t.dominates(limit) {
+            if 2 <= t.axes_within(u) {
+                offers = offers.with(t, u);
+                let second = offers.second;
+                limit = u.join(Point { at: second });
+            }
         }
     }
     limit

@@ -1,5 +1,5 @@
 -- The loops over the axes in `Point`: each goes through n axes in turn. What it has so far is stated for any n.
-use Prim.Native.Nat.{ℕ, zero, suc, _+_, _-_, _*_, _^_, _≤_, _<_, max}
+use Prim.Native.Nat.{ℕ, zero, suc, _+_, _-_, _*_, _/_, _^_, _≤_, _<_, max}
 use mathlib.Core.Path.{_≡_, refl, sym, ap, _∙_}
 use mathlib.Core.Bool.{Bool, true, false}
 use mathlib.Core.List.{List, _∷_, []}
@@ -13,6 +13,7 @@ use borrow.Author.Tests.{ne-eqb}
 use Rattle.slices.specs.Choices.{both}
 use Rattle.hypervolume.specs.Cells.{holds, dominates, join, edges}
 use Rattle.hypervolume.specs.Axes.{axes-within}
+use Rattle.hypervolume.proofs.Tests.{Compared, below, above, compared}
 
 -- Two points of n axes, of which the first have been gone through.
 pub record Along (n : ℕ) (p q : List ℕ) (axis : ℕ) : Type 0 where
@@ -62,6 +63,15 @@ pub joined-end : {n : ℕ} {p q corner : List ℕ} {axis : ℕ} → Joined n p q
 joined-end {n} {p} {q} {corner} {axis} h l =
     let last : axis ≡ length p = omega arith in
     h .so-far ∙ ap (λ k. raised k p q) last ∙ raised-end p q (omega arith)
+
+-- A test of two coordinates, as a bit.
+pub at-most-bit : (x y : ℕ) → x < 4294967296 → y < 4294967296 → (y + 4294967296 - x) / 4294967296 ≡ holds (leb x y)
+unfolding holds
+at-most-bit x y l m = go (leb x y) (compared x y)
+  where
+    go : (b : Bool) → Compared x y b → (y + 4294967296 - x) / 4294967296 ≡ holds b
+    go true (below n) = omega arith
+    go false (above n) = omega arith
 
 -- How many axes are within: those so far, and those left.
 pub record AxesCounted (n : ℕ) (p q : List ℕ) (axes axis : ℕ) : Type 0 where

@@ -22,11 +22,11 @@ pub fn larger(x: u32, y: u32) -> u32
     if x < y { y } else { x }
 }
 
-// 1 where a coordinate is at most another.
+// 1 where a coordinate is at most another, else 0. By arithmetic: a choice would become a branch that nothing foretells.
 fn at_most(x: u32, y: u32) -> u32
     ensures { λ r. ⌜ r ≡ holds (leb x y) ⌝ }
 {
-    if x <= y { 1 } else { 0 }
+    ((y as u64 + 4294967296 - x as u64) / 4294967296) as u32
 }
 
 // The point at place i of a list of points.

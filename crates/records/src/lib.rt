@@ -15,6 +15,7 @@ pub use amounts::raise_values;
 pub use amounts::some_differs;
 pub use amounts::within;
 pub use places::enter_at;
+pub use places::goes_first;
 pub use places::least_place;
 pub use places::put_record;
 pub use places::rank;

@@ -21,10 +21,6 @@ use Rattle.records.specs.Amounts.{Each}
 unfoldable pub closed : {A : Type 0} → ℕ → List A → List A
 closed k l = take k l ++ drop (suc k) l
 
--- A record of which only the number and the contribution matter, as in the ranking.
-abbrev pub ranked-row : (number kept : ℕ) → Row
-ranked-row number kept = record { trial = record { number = number; x = 0; y = 0; z = 0 }; kept = kept }
-
 -- The least contributor of the records of which these are the numbers and the contributions stands at place k.
 abbrev pub LeastAt : List ℕ → List ℕ → ℕ → Type 0
 LeastAt numbers kept k =
