@@ -14,56 +14,47 @@ ghost use Rattle.words.specs.Layout.{records};
 ghost use Rattle.calls.specs.Calls.{goes-first};
 ghost use Rattle.removal.specs.Columns.{closed, ranked-row, LeastAt, RowsInColumns};
 
-// A record as the ranking sees it: its place, its number and its contribution.
-struct Ranked {
-    place: usize,
-    number: u64,
-    kept: u64,
-}
-
-impl Ranked {
-    // Whether this record goes before the other: the smaller contribution, among equals the higher trial number.
-    fn goes_first(self, other: Ranked) -> bool
-        ensures { λ r. ⌜ r ≡ goes-first (ranked-row (self .number) (self .kept)) (ranked-row (other .number) (other .kept)) ⌝ }
-    {
-        if self.kept < other.kept {
-            return true;
-        }
-        if self.kept == other.kept {
-            return other.number < self.number;
-        }
-        false
+// Whether a record goes before another: the smaller contribution, among equals the higher trial number.
+fn goes_first(number: u64, kept: u64, other: u64, least: u64) -> bool
+    ensures { λ r. ⌜ r ≡ goes-first (ranked-row number kept) (ranked-row other least) ⌝ }
+{
+    if kept < least {
+        return true;
     }
+    if kept == least {
+        return other < number;
+    }
+    false
 }
 
-// The first of two where the test holds: a choice of values takes no branch.
-fn choose(test: bool, a: Ranked, b: Ranked) -> Ranked
+fn choose(test: bool, a: usize, b: usize) -> usize
     ensures { λ r. ⌜ r ≡ pick test a b ⌝ }
 {
     if test { a } else { b }
 }
 
-// The place of the least contributor.
+// The place of the least contributor. Most records contribute more than the least so far, and for these nothing else is read.
 pub fn least_in(numbers: &[u64], kept: &[u64]) -> usize
     requires { ⌜ (length (now kept) ≡ length (now numbers)) × (0 < length (now numbers)) ⌝ }
     ensures { λ r. ⌜ (r < length (now (numbers .entry))) × LeastAt (now (numbers .entry)) (now (kept .entry)) r ⌝ }
 {
-    let mut best = Ranked {
-        place: 0,
-        number: numbers[0],
-        kept: kept[0],
-    };
+    let mut best = 0;
+    let mut least = kept[0];
     let mut i = 1;
     while i < numbers.len() {
-        let next = Ranked {
-            place: i,
-            number: numbers[i],
-            kept: kept[i],
-        };
-        best = choose(next.goes_first(best), next, best);
-        i += 1;
+        if least < kept[i] {
+            i += 1;
+        } else {
+            best = choose(
+                goes_first(numbers[i], kept[i], numbers[best], least),
+                i,
+                best,
+            );
+            least = kept[best];
+            i += 1;
+        }
     }
-    best.place
+    best
 }
 
 // Closes the gap at place k among the first n points.

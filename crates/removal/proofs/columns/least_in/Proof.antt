@@ -1,43 +1,29 @@
 -- `least_in` meets its contract: of the records passed, the best one goes first.
 use Prim.Native.Nat.{_-_}
+use native.Mathlib.Omega.{arith}
 use lib.ListN.{length}
-use Rattle.removal.proofs.columns.Ranking.{RankedSoFar, ranked-none, ranked-more, ranked-end}
+use Rattle.removal.proofs.columns.Ranking.{RankedSoFar, ranked-none, ranked-skip, ranked-more, ranked-inside, ranked-end}
 use borrow.Author.Needs.{needs}
 use Rattle.removal.proofs.columns.least_in.Statement.{statement}
 use Rattle.removal.proofs.columns.least_in.Tie as tie
 
 abbrev Inv-loop : tie.InvT-loop
-Inv-loop numbers kept best₀ i₀ best i = RankedSoFar numbers kept best i
+Inv-loop numbers kept best₀ least₀ i₀ best least i = RankedSoFar numbers kept best least i
 
 abbrev μ-loop : tie.MeasureT-loop
-μ-loop numbers kept best₀ i₀ best i = length numbers - i
+μ-loop numbers kept best₀ least₀ i₀ best least i = length numbers - i
 
-shared-slice-read-t7 : tie.Need-shared-slice-read-t7 Inv-loop μ-loop
-shared-slice-read-t7 c = search needs
-
-shared-slice-read-t9 : tie.Need-shared-slice-read-t9 Inv-loop μ-loop
-shared-slice-read-t9 c = search needs
+shared-slice-read-least : tie.Need-shared-slice-read-least Inv-loop μ-loop
+shared-slice-read-least c = search needs
 
 loop-holds : tie.Need-loop-holds Inv-loop μ-loop
-loop-holds c = ranked-none _ _ (c .before .before .before .before .pre .1)
+loop-holds c = ranked-none _ _ (c .before .before .before .pre .1)
 
-mul-t10 : tie.Need-mul-t10 Inv-loop μ-loop
-mul-t10 c = search needs
+mul-if1 : tie.Need-mul-if1 Inv-loop μ-loop
+mul-if1 c = search needs
 
-shared-slice-read-t13 : tie.Need-shared-slice-read-t13 Inv-loop μ-loop
-shared-slice-read-t13 c = search needs
-
-mul-t14 : tie.Need-mul-t14 Inv-loop μ-loop
-mul-t14 c = search needs
-
-shared-slice-read-t16 : tie.Need-shared-slice-read-t16 Inv-loop μ-loop
-shared-slice-read-t16 c = search needs
-
-goes-first-requires : tie.Need-goes-first-requires Inv-loop μ-loop
-goes-first-requires c κs = search needs
-
-choose-requires : tie.Need-choose-requires Inv-loop μ-loop
-choose-requires c κs = search needs
+shared-slice-read-if1 : tie.Need-shared-slice-read-if1 Inv-loop μ-loop
+shared-slice-read-if1 c = search needs
 
 add-i : tie.Need-add-i Inv-loop μ-loop
 add-i c = search needs
@@ -46,7 +32,46 @@ loop-less : tie.Need-loop-less Inv-loop μ-loop
 loop-less c = search needs
 
 loop-again : tie.Need-loop-again Inv-loop μ-loop
-loop-again c = ranked-more _ _ (c .before .before .before .before .before .loop .inv) (c .before .before .before .before .loop-test .taken) (c .before .goes-first .ensures) (c .choose .ensures)
+loop-again c = ranked-skip (c .before .before .before .loop .inv) (c .before .before .loop-test .taken) (c .if1 .taken)
+
+mul-goes-first : tie.Need-mul-goes-first Inv-loop μ-loop
+mul-goes-first c = search needs
+
+shared-slice-read-goes-first : tie.Need-shared-slice-read-goes-first Inv-loop μ-loop
+shared-slice-read-goes-first c = search needs
+
+mul-goes-first-2 : tie.Need-mul-goes-first-2 Inv-loop μ-loop
+mul-goes-first-2 c = search needs
+
+shared-slice-read-goes-first-2 : tie.Need-shared-slice-read-goes-first-2 Inv-loop μ-loop
+shared-slice-read-goes-first-2 c = search needs
+
+mul-goes-first-3 : tie.Need-mul-goes-first-3 Inv-loop μ-loop
+mul-goes-first-3 c = search needs
+
+shared-slice-read-goes-first-3 : tie.Need-shared-slice-read-goes-first-3 Inv-loop μ-loop
+shared-slice-read-goes-first-3 c = search needs
+
+goes-first-requires : tie.Need-goes-first-requires Inv-loop μ-loop
+goes-first-requires c κs = search needs
+
+choose-requires : tie.Need-choose-requires Inv-loop μ-loop
+choose-requires c κs = search needs
+
+mul-least : tie.Need-mul-least Inv-loop μ-loop
+mul-least c = omega (arith, ranked-inside (c .before .before .before .before .before .before .before .before .loop .inv) (c .before .before .before .before .before .before .before .loop-test .taken) _ _ (c .choose .ensures))
+
+shared-slice-read-least-2 : tie.Need-shared-slice-read-least-2 Inv-loop μ-loop
+shared-slice-read-least-2 c = omega (arith, ranked-inside (c .before .before .before .before .before .before .before .before .before .loop .inv) (c .before .before .before .before .before .before .before .before .loop-test .taken) _ _ (c .before .choose .ensures))
+
+add-i-2 : tie.Need-add-i-2 Inv-loop μ-loop
+add-i-2 c = search needs
+
+loop-less-2 : tie.Need-loop-less-2 Inv-loop μ-loop
+loop-less-2 c = search needs
+
+loop-again-2 : tie.Need-loop-again-2 Inv-loop μ-loop
+loop-again-2 c = ranked-more (c .before .before .before .before .before .before .before .before .before .loop .inv) (c .before .before .before .before .before .before .before .before .loop-test .taken) _ _ (c .before .before .goes-first .ensures) (c .before .choose .ensures)
 
 returns : tie.Need-returns Inv-loop μ-loop
 returns c = ranked-end (c .before .loop .inv) (c .loop-test .left)
@@ -57,16 +82,24 @@ least-in-spec =
     (tie.spec
     Inv-loop
     μ-loop
-    shared-slice-read-t7
-    shared-slice-read-t9
+    shared-slice-read-least
     loop-holds
-    mul-t10
-    shared-slice-read-t13
-    mul-t14
-    shared-slice-read-t16
-    goes-first-requires
-    choose-requires
+    mul-if1
+    shared-slice-read-if1
     add-i
     loop-less
     loop-again
+    mul-goes-first
+    shared-slice-read-goes-first
+    mul-goes-first-2
+    shared-slice-read-goes-first-2
+    mul-goes-first-3
+    shared-slice-read-goes-first-3
+    goes-first-requires
+    choose-requires
+    mul-least
+    shared-slice-read-least-2
+    add-i-2
+    loop-less-2
+    loop-again-2
     returns)

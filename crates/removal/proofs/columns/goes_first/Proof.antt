@@ -1,0 +1,16 @@
+-- `goes_first` meets its contract, by the tests on the way.
+use Rattle.calls.proofs.Leading.{first-less, first-equal, first-more}
+use Rattle.removal.proofs.columns.goes_first.Statement.{statement}
+use Rattle.removal.proofs.columns.goes_first.Tie as tie
+
+returns : tie.Need-returns
+returns c = first-less _ _ (c .if1 .taken)
+
+returns-2 : tie.Need-returns-2
+returns-2 c = first-equal _ _ (c .before .if1 .left) (c .if2 .taken)
+
+returns-3 : tie.Need-returns-3
+returns-3 c = first-more _ _ (c .before .if1 .left) (c .if2 .left)
+
+pub goes-first-spec : {M : Type 1} → statement M
+goes-first-spec = tie.close (tie.spec returns returns-2 returns-3)
