@@ -1,90 +1,73 @@
+-- `limits` meets its contract. The invariant: on each axis the two least offers of the first i points, and their limits.
+use Prim.Native.Nat.{_-_}
+use lib.ListN.{length}
+use borrow.Author.Count.{falls}
+use borrow.Author.Needs.{needs}
+use Rattle.corners.proofs.limits.LimitsLaws.{Bounding, bounding-none, bounding-skip, bounding-more, bounding-end}
 use Rattle.corners.proofs.limits.limits.Statement.{statement}
 use Rattle.corners.proofs.limits.limits.Tie as tie
-use Rattle.corners.proofs.limits.limits.Reads as reads
-use Rattle.corners.proofs.limits.limits.Lts as lts
-use Rattle.corners.proofs.limits.Offers.with.Reads as with-reads
-use Rattle.hypervolume.proofs.Point.axes_within.Reads as axes-within-reads
-use Rattle.hypervolume.proofs.Point.dominates.Reads as dominates-reads
-use Rattle.hypervolume.proofs.Point.join.Reads as join-reads
-use Rattle.hypervolume.proofs.point_at.Reads as point-at-reads
 
 abbrev Inv-loop : tie.InvT-loop
-Inv-loop points u offers₀ limit₀ i₀ offers limit i = ?
+Inv-loop points u offers₀ limit₀ i₀ offers limit i = Bounding points (u .at) (offers .least) (offers .second) (limit .at) i
 
 abbrev μ-loop : tie.MeasureT-loop
-μ-loop points u offers₀ limit₀ i₀ offers limit i = ?
+μ-loop points u offers₀ limit₀ i₀ offers limit i = length points - i
 
--- src/limits.rt:64:21
 join-requires : tie.Need-join-requires Inv-loop μ-loop
-join-requires c κs = ?
+join-requires c κs = search needs
 
--- src/limits.rt:68:5
 loop-holds : tie.Need-loop-holds Inv-loop μ-loop
-loop-holds c = ?
+loop-holds c = bounding-none (search needs) (c .join .ensures)
 
--- src/limits.rt:69:17
 point-at-requires : tie.Need-point-at-requires Inv-loop μ-loop
-point-at-requires c κs = ?
+point-at-requires c κs = search needs
 
--- src/limits.rt:70:12
 element-copy-out-if1 : tie.Need-element-copy-out-if1 Inv-loop μ-loop
-element-copy-out-if1 c = ?
+element-copy-out-if1 c = search needs
 
--- src/limits.rt:70:26
 element-copy-out-if1-2 : tie.Need-element-copy-out-if1-2 Inv-loop μ-loop
-element-copy-out-if1-2 c = ?
+element-copy-out-if1-2 c = search needs
 
--- src/limits.rt:71:13
 returns : tie.Need-returns Inv-loop μ-loop
-returns c = ?
+returns c = bounding-end (c .before .before .before .before .before .loop .inv)
 
--- src/limits.rt:73:13
 add-i : tie.Need-add-i Inv-loop μ-loop
-add-i c = ?
+add-i c = search needs
 
--- src/limits.rt:74:12
 dominates-requires : tie.Need-dominates-requires Inv-loop μ-loop
-dominates-requires c κs = ?
+dominates-requires c κs = search needs
 
--- src/limits.rt:75:21
 axes-within-requires : tie.Need-axes-within-requires Inv-loop μ-loop
-axes-within-requires c κs = ?
+axes-within-requires c κs = search needs
 
--- src/limits.rt:76:17
 with-requires : tie.Need-with-requires Inv-loop μ-loop
-with-requires c κs = ?
+with-requires c κs = search needs
 
--- src/limits.rt:78:25
 join-requires-2 : tie.Need-join-requires-2 Inv-loop μ-loop
-join-requires-2 c κs = ?
+join-requires-2 c κs = search needs
 
--- src/limits.rt:68:5
 loop-less : tie.Need-loop-less Inv-loop μ-loop
-loop-less c = ?
+loop-less c = falls _ _ (c .before .before .before .before .before .before .before .before .before .before .before .loop-test .taken)
 
--- src/limits.rt:68:5
 loop-again : tie.Need-loop-again Inv-loop μ-loop
-loop-again c = ?
+loop-again c =
+    let read = c .before .before .before .before .before .before .before .before .before .before in
+    bounding-more (read .before .before .loop .inv) (read .before .loop-test .taken) (read .point-at .ensures) (c .before .before .with .ensures) (search needs) (c .join2 .ensures)
 
--- src/limits.rt:68:5
 loop-less-2 : tie.Need-loop-less-2 Inv-loop μ-loop
-loop-less-2 c = ?
+loop-less-2 c = falls _ _ (c .before .before .before .before .before .before .before .before .loop-test .taken)
 
--- src/limits.rt:68:5
 loop-again-2 : tie.Need-loop-again-2 Inv-loop μ-loop
-loop-again-2 c = ?
+loop-again-2 c = bounding-skip (c .before .before .before .before .before .before .before .before .before .loop .inv) (c .before .before .before .before .before .before .before .before .loop-test .taken)
 
--- src/limits.rt:68:5
 loop-less-3 : tie.Need-loop-less-3 Inv-loop μ-loop
-loop-less-3 c = ?
+loop-less-3 c = falls _ _ (c .before .before .before .before .before .before .loop-test .taken)
 
--- src/limits.rt:68:5
 loop-again-3 : tie.Need-loop-again-3 Inv-loop μ-loop
-loop-again-3 c = ?
+loop-again-3 c = bounding-skip (c .before .before .before .before .before .before .before .loop .inv) (c .before .before .before .before .before .before .loop-test .taken)
 
--- src/limits.rt:57:1
 returns-2 : tie.Need-returns-2 Inv-loop μ-loop
-returns-2 c = ?
+returns-2 c = bounding-end (c .before .loop .inv)
 
 pub limits-spec : {M : Type 1} → statement M
 limits-spec =
