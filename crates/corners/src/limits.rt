@@ -5,7 +5,7 @@ use hypervolume::larger;
 use hypervolume::point_at;
 use hypervolume::put_point;
 ghost use mathlib.Core.Path.{_≡_};
-ghost use Prim.Native.Nat.{_<_, min};
+ghost use Prim.Native.Nat.{_≤_, _<_, min};
 ghost use lib.ListN.{length};
 ghost use Rattle.corners.specs.Limits.{offer, Offered, Limits, Collecting, Collected};
 
@@ -52,8 +52,30 @@ impl Offers {
     }
 }
 
-// The limit on each axis: the second least coordinate of the corners that equal u on all others. Only a point within the
-// limits so far and at most u on two axes can lower one. The points ascend on z, so past the limit on z none does.
+// The next place, from this one on, of a point that may lower a limit: it is within the limits so far, and at most u on two
+// axes. The points ascend on z, so past the limit on z none does, and the answer is the end. (Apart from the offers, so
+// that few numbers are live in this loop: every insertion and removal goes through all points here.)
+fn seek(points: &[[u32; 3]], from: usize, u: Point, limit: Point) -> usize
+    requires { ⌜ from ≤ length (now points) ⌝ }
+    ensures { λ r. ⌜ (from ≤ r) × (r ≤ length (now (points .entry))) ⌝ }
+{
+    let mut i = from;
+    while i < points.len() {
+        let t = point_at(points, i);
+        if limit.at[2] < t.at[2] {
+            return points.len();
+        }
+        i = i + 1;
+        if t.dominates(limit) {
+            if 2 <= t.axes_within(u) {
+                return i - 1;
+            }
+        }
+    }
+    i
+}
+
+// The limit on each axis: the second least coordinate of the corners that equal u on all others.
 pub fn limits(points: &[[u32; 3]], u: Point) -> Point
     ensures { λ r. ⌜ Limits (now (points .entry)) (u .at) (r .at) ⌝ }
 {
@@ -66,18 +88,14 @@ pub fn limits(points: &[[u32; 3]], u: Point) -> Point
     });
     let mut i: usize = 0;
     while i < points.len() {
-        let t = point_at(points, i);
-        if limit.at[2] < t.at[2] {
+        let next = seek(points, i, u, limit);
+        if next == points.len() {
             return limit;
         }
-        i = i + 1;
-        if t.dominates(limit) {
-            if 2 <= t.axes_within(u) {
-                offers = offers.with(t, u);
-                let second = offers.second;
-                limit = u.join(Point { at: second });
-            }
-        }
+        offers = offers.with(point_at(points, next), u);
+        let second = offers.second;
+        limit = u.join(Point { at: second });
+        i = next + 1;
     }
     limit
 }

@@ -186,9 +186,6 @@ bounded {passed} {u} least second h e =
     twice a l m =
         omega (arith, h a l .two (omega arith), raised-cover passed u a (getD second a 0) (max (getD u a 0) (getD second a 0)) (omega arith))
 
-pub axes-few : (p q : List ℕ) {n : ℕ} → length p ≡ 3 → n ≡ axes-within p q → n ≤ 3
-axes-few p q e f = omega (arith, axes-most p q)
-
 -- The pass over the points.
 pub record Bounding (points : List (List ℕ)) (u least second limit : List ℕ) (i : ℕ) : Type 0 where
   pub axes : length u ≡ 3
@@ -212,8 +209,8 @@ module _ {points : List (List ℕ)} {u least second limit : List ℕ} {i : ℕ} 
   next : i < length points → take (i + 1) points ≡ take i points ++ (getD points i [] ∷ [])
   next l = rw (add-one i) (take-suc points i [] l)
 
-  -- A point may be passed over.
-  pub bounding-skip : i < length points → Bounding points u least second limit (i + 1)
+  -- A point may be passed over, and so may several.
+  bounding-skip : i < length points → Bounding points u least second limit (i + 1)
   bounding-skip l =
       record {
         axes = h .axes;
@@ -236,6 +233,14 @@ module _ {points : List (List ℕ)} {u least second limit : List ℕ} {i : ℕ} 
           let inside : a < 3 = omega (arith, h .axes) in
           rw (next l, ← e, offered .on-least a inside, offered .on-second a inside)
           (two-least-more t (offer t u a) (h .on a m) (offer-made t u a))
+
+pub bounding-past : {points : List (List ℕ)} {u least second limit : List ℕ} (i r : ℕ) → Bounding points u least second limit i → i ≤ r → r ≤ length points → Bounding points u least second limit r
+bounding-past i zero h l m = let none : i ≡ 0 = omega arith in rw (← none) h
+bounding-past {points} {u} {least} {second} {limit} i (suc r) h l m = go (decLe i r) (λ n. bounding-past i r h n (omega arith))
+  where
+    go : Dec (i ≤ r) → (i ≤ r → Bounding points u least second limit r) → Bounding points u least second limit (suc r)
+    go (yes n) before = rw (← (add-one r)) (bounding-skip (before n) (omega arith))
+    go (no n) before = let last : i ≡ suc r = omega arith in rw (← last) h
 
 -- The limits of the first points are limits of all.
 pub bounding-end : {points : List (List ℕ)} {u least second limit : List ℕ} {i : ℕ} → Bounding points u least second limit i → Limits points u limit
