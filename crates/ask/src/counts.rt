@@ -1,4 +1,5 @@
-// Counted amounts of the records that the words hold: one call of the sweep each.
+// Counted amounts of the records that the words hold: one call of the sweep each. (A point's zeros are written out in the
+// local arrays: so the compiler clears an array at once, and not point by point.)
 use corners::Updated;
 use corners::update;
 use hypervolume::Point;
@@ -18,7 +19,7 @@ pub fn count_all(w: &[u64], out: &mut [u64]) -> u64
     requires { ⌜ (archive-rows (now w) 0 ≡ 0) × (512 ≤ length (now out)) ⌝ }
     ensures { λ r. ⌜ CountedAll (now (w .entry)) (now (out .entry)) (now (out .exit)) r ⌝ }
 {
-    let mut points = [[0u32; 3]; 512];
+    let mut points = [[0u32, 0, 0]; 512];
     let mut line = [0u64; 512];
     let m = load_points(w, w[0] as usize, &mut points);
     sweep(&points[..m], reference_of(w), &mut line, out)
@@ -36,8 +37,8 @@ pub fn count_joints(
     requires { ⌜ (archive-rows (now w) 0 ≡ 0) × (skip ≤ word (now w) 0) × (512 ≤ length (now places)) × (512 ≤ length (now counts)) × Small (p .at) ⌝ }
     ensures { λ r. ⌜ CountedJoints (now (w .entry)) skip (p .at) (now (places .exit)) (now (counts .exit)) r ⌝ }
 {
-    let mut points = [[0u32; 3]; 512];
-    let mut corners = [[0u32; 3]; 512];
+    let mut points = [[0u32, 0, 0]; 512];
+    let mut corners = [[0u32, 0, 0]; 512];
     let mut line = [0u64; 512];
     let m = load_points(w, skip, &mut points);
     update(

@@ -56,7 +56,7 @@ fn drop_all(
     requires { ⌜ DropReady (reference .at) n total (now numbers) (now points) (now kept) × (n ≤ 512) × (drops ≤ n) × (2 * drops ≤ length (now log)) ⌝ }
     ensures { λ r. ⌜ ((a : Archive) → InColumns a (reference .at) n total (now (numbers .entry)) (now (points .entry)) (now (kept .entry)) → Droppable a → InColumns (after-drops drops a) (reference .at) (n - drops) r (now (numbers .exit)) (now (points .exit)) (now (kept .exit)) × (now (log .exit) ≡ put (now (log .entry)) 0 (notes drops a))) ⌝ }
 {
-    let mut corners = [[0u32; 3]; 512];
+    let mut corners = [[0u32, 0, 0]; 512];
     let mut places = [0u16; 512];
     let mut line = [0u64; 512];
     let mut counts = [0u64; 512];
@@ -110,7 +110,7 @@ fn reduce_by(w: &mut [u64], drops: usize, log: &mut [u64])
     let total = w[5];
     let reference = reference_of(w);
     let mut numbers = [0u64; 512];
-    let mut points = [[0u32; 3]; 512];
+    let mut points = [[0u32, 0, 0]; 512];
     let mut kept = [0u64; 512];
     load(w, n, 0, n, &mut numbers);
     load_points(w, n, &mut points);
