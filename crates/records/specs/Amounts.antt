@@ -22,11 +22,6 @@ some-pair test [] amounts = false
 some-pair test (v ∷ vs) [] = false
 some-pair test (v ∷ vs) (m ∷ amounts) = either (test v m) (some-pair test vs amounts)
 
--- Values moved by their amounts unless a pair passes the test: whether none does, and what they are then.
-pub record MovedUnless (test : ℕ → ℕ → Bool) (op : ℕ → ℕ → ℕ) (values amounts after : List ℕ) (done : Bool) : Type 0 where
-  pub judged : done ≡ not (some-pair test values amounts)
-  pub is-moved : done ≡ true → after ≡ moved op values amounts
-
 -- Every number of the list is at most the limit.
 abbrev pub Each : List ℕ → ℕ → Type 0
 Each l limit = (i : ℕ) → getD l i 0 ≤ limit

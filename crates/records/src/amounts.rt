@@ -1,5 +1,5 @@
-// Contributions moved by counted amounts, unless one would fall below 0 or exceed the box (row 13): amount by amount, or
-// at the places of those that are not 0.
+// Contributions in the words: compared with their counts, judged by row 13, and moved by counted amounts at the places of those
+// that are not 0.
 ghost use mathlib.Core.Path.{_≡_};
 ghost use mathlib.Core.Bool.{false, not};
 ghost use Prim.Native.Nat.{ℕ, _+_, _-_, _*_, _≤_, _<_};
@@ -9,7 +9,7 @@ ghost use Rattle.slices.specs.Put.{put};
 ghost use Rattle.words.specs.Layout.{records};
 ghost use Rattle.words.specs.Places.{rows-before};
 ghost use Rattle.records.specs.Columns.{column, leave-out, place-but, rekept};
-ghost use Rattle.records.specs.Amounts.{some-pair, moved, Each, MovedUnless, Placed, amounts-at};
+ghost use Rattle.records.specs.Amounts.{some-pair, moved, Each, Placed, amounts-at};
 
 // Whether a contribution of the first records differs from its count.
 pub fn some_differs(w: &[u64], counts: &[u64]) -> bool
@@ -24,39 +24,6 @@ pub fn some_differs(w: &[u64], counts: &[u64]) -> bool
         i += 1;
     }
     false
-}
-
-// Lowers each value by its amount, and answers true; false where some value is below its amount.
-pub fn lower(values: &mut [u64], amounts: &[u64]) -> bool
-    requires { ⌜ length (now amounts) ≡ length (now values) ⌝ }
-    ensures { λ r. ⌜ MovedUnless (λ v m. ltb v m) (λ v m. v - m) (now (values .entry)) (now (amounts .entry)) (now (values .exit)) r ⌝ }
-{
-    let mut i = 0;
-    while i < values.len() {
-        if values[i] < amounts[i] {
-            return false;
-        }
-        values[i] = values[i] - amounts[i];
-        i += 1;
-    }
-    true
-}
-
-// Raises each value by its amount, and answers true; false where some value would exceed the limit. None exceeds it before.
-pub fn raise(values: &mut [u64], amounts: &[u64], limit: u64) -> bool
-    requires { ⌜ (length (now amounts) ≡ length (now values)) × (limit ≤ 1152921504606846976) ⌝ }
-    requires { ⌜ Each (now values) limit × Each (now amounts) limit ⌝ }
-    ensures { λ r. ⌜ MovedUnless (λ v m. ltb limit (v + m)) (λ v m. v + m) (now (values .entry)) (now (amounts .entry)) (now (values .exit)) r ⌝ }
-{
-    let mut i = 0;
-    while i < values.len() {
-        if limit < values[i] + amounts[i] {
-            return false;
-        }
-        values[i] = values[i] + amounts[i];
-        i += 1;
-    }
-    true
 }
 
 // Whether no contribution of n records is below its count, of the counts at these places.

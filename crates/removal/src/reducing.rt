@@ -112,9 +112,9 @@ fn reduce_by(w: &mut [u64], drops: usize, log: &mut [u64])
     let mut numbers = [0u64; 512];
     let mut points = [[0u32, 0, 0]; 512];
     let mut kept = [0u64; 512];
-    load(w, n, 0, n, &mut numbers);
+    load(w, n, 0, &mut numbers);
     load_points(w, n, &mut points);
-    load(w, n, 4, n, &mut kept);
+    load(w, n, 4, &mut kept);
     let left = drop_all(
         &mut numbers,
         &mut points,

@@ -27,9 +27,9 @@ use Rattle.removal.proofs.dropping.Made.{Room, room}
 use Rattle.removal.proofs.reducing.Dropping.{drops-shape}
 
 -- A column loaded: the first n words of the slice.
-column-loaded : (field n : ℕ) (rows : List Row) (old now : List ℕ) → length rows ≡ n → now ≡ put old 0 (column field (leave-out n rows)) → take n now ≡ column field rows
+column-loaded : (field n : ℕ) (rows : List Row) (old now : List ℕ) → length rows ≡ n → now ≡ put old 0 (column field rows) → take n now ≡ column field rows
 column-loaded field n rows old now many e =
-    ap (take n) (e ∙ ap (λ r. put old 0 (column field r)) (leave-none rows n (omega arith)) ∙ put-front old (column field rows))
+    ap (take n) (e ∙ put-front old (column field rows))
     ∙ take-at (column field rows) (drop (length (column field rows)) old) n (length-column field rows ∙ many)
 
 -- The columns are those of the archive that the words hold.
@@ -38,7 +38,7 @@ module _ (w : List ℕ) (n : ℕ) (p : archive-rows w 0 ≡ 0) (en : n ≡ word 
   many-rows = length-read-rows n (drop 8 w)
 
   pub loaded : (r numbers₀ numbers kept₀ kept : List ℕ) (m : ℕ) (coordinates₀ coordinates : List (List ℕ)) → r ≡ reference (read-shape w)
-      → numbers ≡ put numbers₀ 0 (column 0 (leave-out n (rows-before w n))) → PointsLoaded w n m coordinates₀ coordinates → kept ≡ put kept₀ 0 (column 4 (leave-out n (rows-before w n)))
+      → numbers ≡ put numbers₀ 0 (column 0 (rows-before w n)) → PointsLoaded w n m coordinates₀ coordinates → kept ≡ put kept₀ 0 (column 4 (rows-before w n))
       → InColumns (read w) r n (word w 5) numbers coordinates kept
   unfolding read
   loaded r numbers₀ numbers kept₀ kept m coordinates₀ coordinates er e₀ l e₄ =
