@@ -53,8 +53,9 @@ impl Offers {
 }
 
 // The next place, from this one on, of a point that may lower a limit: it is within the limits so far, and at most u on two
-// axes. The points ascend on z, so past the limit on z none does, and the answer is the end. (Apart from the offers, so
-// that few numbers are live in this loop: every insertion and removal goes through all points here.)
+// axes, that is, it passes five of six tests (u is within the limits). The points ascend on z, so past the limit on z none
+// does, and the answer is the end. Every insertion and removal goes through the points here: so the loop stands apart from the
+// offers, with few numbers live, and asks by one sum, since a test for each half could not be foretold.
 fn seek(points: &[[u32; 3]], from: usize, u: Point, limit: Point) -> usize
     requires { ⌜ from ≤ length (now points) ⌝ }
     ensures { λ r. ⌜ (from ≤ r) × (r ≤ length (now (points .entry))) ⌝ }
@@ -65,12 +66,10 @@ fn seek(points: &[[u32; 3]], from: usize, u: Point, limit: Point) -> usize
         if limit.at[2] < t.at[2] {
             return points.len();
         }
-        i = i + 1;
-        if t.dominates(limit) {
-            if 2 <= t.axes_within(u) {
-                return i - 1;
-            }
+        if 5 <= t.axes_within(limit) + t.axes_within(u) {
+            return i;
         }
+        i = i + 1;
     }
     i
 }

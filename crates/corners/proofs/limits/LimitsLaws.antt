@@ -242,6 +242,9 @@ bounding-past {points} {u} {least} {second} {limit} i (suc r) h l m = go (decLe 
     go (yes n) before = rw (← (add-one r)) (bounding-skip (before n) (omega arith))
     go (no n) before = let last : i ≡ suc r = omega arith in rw (← last) h
 
+pub axes-few : (p q : List ℕ) {n : ℕ} → length p ≡ 3 → n ≡ axes-within p q → n ≤ 3
+axes-few p q e f = omega (arith, axes-most p q)
+
 -- The limits of the first points are limits of all.
 pub bounding-end : {points : List (List ℕ)} {u least second limit : List ℕ} {i : ℕ} → Bounding points u least second limit i → Limits points u limit
 bounding-end {points} {i = i} h = rw (take-append-drop i points) at (limits-later (drop i points) (h .limits))

@@ -3,6 +3,7 @@ use Prim.Native.Nat.{_-_, _≤_}
 use native.Mathlib.Omega.{arith}
 use lib.ListN.{length}
 use borrow.Author.Needs.{needs}
+use Rattle.corners.proofs.limits.LimitsLaws.{axes-few}
 use Rattle.corners.proofs.limits.seek.Statement.{statement}
 use Rattle.corners.proofs.limits.seek.Tie as tie
 
@@ -27,32 +28,29 @@ element-copy-out-if1-2 c = search needs
 returns : tie.Need-returns Inv-loop μ-loop
 returns c = search needs
 
-add-i : tie.Need-add-i Inv-loop μ-loop
-add-i c = search needs
-
-dominates-requires : tie.Need-dominates-requires Inv-loop μ-loop
-dominates-requires c κs = search needs
-
 axes-within-requires : tie.Need-axes-within-requires Inv-loop μ-loop
 axes-within-requires c κs = search needs
 
-sub-result : tie.Need-sub-result Inv-loop μ-loop
-sub-result c = search needs
+axes-within-requires-2 : tie.Need-axes-within-requires-2 Inv-loop μ-loop
+axes-within-requires-2 c κs = search needs
+
+add-if2 : tie.Need-add-if2 Inv-loop μ-loop
+add-if2 c =
+    let a : c .before .axes-within .result ≤ 3 = axes-few _ _ (search needs) (c .before .axes-within .ensures) in
+    let b : c .axes-within2 .result ≤ 3 = axes-few _ _ (search needs) (c .axes-within2 .ensures) in
+    omega arith
 
 returns-2 : tie.Need-returns-2 Inv-loop μ-loop
 returns-2 c = search needs
+
+add-i : tie.Need-add-i Inv-loop μ-loop
+add-i c = search needs
 
 loop-less : tie.Need-loop-less Inv-loop μ-loop
 loop-less c = search needs
 
 loop-again : tie.Need-loop-again Inv-loop μ-loop
 loop-again c = search needs
-
-loop-less-2 : tie.Need-loop-less-2 Inv-loop μ-loop
-loop-less-2 c = search needs
-
-loop-again-2 : tie.Need-loop-again-2 Inv-loop μ-loop
-loop-again-2 c = search needs
 
 returns-3 : tie.Need-returns-3 Inv-loop μ-loop
 returns-3 c = search needs
@@ -68,13 +66,11 @@ seek-spec =
     element-copy-out-if1
     element-copy-out-if1-2
     returns
-    add-i
-    dominates-requires
     axes-within-requires
-    sub-result
+    axes-within-requires-2
+    add-if2
     returns-2
+    add-i
     loop-less
     loop-again
-    loop-less-2
-    loop-again-2
     returns-3)
