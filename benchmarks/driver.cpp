@@ -533,12 +533,14 @@ private:
     void targets() const
     {
         std::cout << "\nTargets:\n";
-        for (const std::string &call : {one_insertion, one_removal, all_contributions, reducing}) {
+        const std::vector<std::pair<std::string, double>> against_rust{
+            {one_insertion, 1.25}, {one_removal, 1.25}, {all_contributions, 1.1}, {reducing, 1.3}};
+        for (const auto &[call, bound] : against_rust) {
             std::vector<double> ratios;
             for (const Row &r : rows)
                 if (r.call == call)
                     ratios.push_back(r.archive.median() / r.rust.median());
-            target(call + ", archive ÷ rust", ratios, true, 1.5);
+            target(call + ", archive ÷ rust", ratios, true, bound);
         }
         auto against_peer = [this](const std::string &call, const std::string &trials,
                                    bool uniform) {
@@ -552,11 +554,11 @@ private:
         target(three_calls + " at 200, cliff and spherical, pagmo ÷ archive",
                against_peer(three_calls, "200", false), false, 8);
         target(three_calls + " at 511, cliff and spherical, pagmo ÷ archive",
-               against_peer(three_calls, "511", false), false, 10);
-        target(all_contributions + " at 512, pagmo ÷ archive",
-               against_peer(all_contributions, "512", true), false, 6);
+               against_peer(three_calls, "511", false), false, 16);
+        target(all_contributions + " at 512, cliff and spherical, pagmo ÷ archive",
+               against_peer(all_contributions, "512", false), false, 6);
         target(reducing + " 512 → 1, pagmo ÷ archive", against_peer(reducing, "512 → 1", true),
-               false, 30);
+               false, 40);
     }
 
     Effort effort;

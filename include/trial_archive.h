@@ -133,7 +133,7 @@ extern "C" {
 #define TA_MAX_NUMBER 9999999
 
 /* The stack that any one call stays below, in bytes. bench/stack.c measures it. */
-#define TA_STACK_BYTES 65536
+#define TA_STACK_BYTES 49152
 
 /*
  * Lengths: words of an archive with a capacity up to TA_MAX_CAPACITY, words of

@@ -1,76 +1,53 @@
-// Counted amounts of the records that the words hold: one call of the sweep each.
+// Counted amounts of the records that the words hold: one call of the sweep each. (A point's zeros are written out in the
+// local arrays: so the compiler clears an array at once, and not point by point.)
+use corners::Updated;
+use corners::update;
 use hypervolume::Point;
-use records::load;
-use words::Row;
-use words::Shape;
-use words::shape_of;
+use records::load_points;
+use sweep::sweep;
+use words::reference_of;
 ghost use mathlib.Core.Path.{_≡_};
-ghost use mathlib.Core.Bool.{true};
 ghost use Prim.Native.Nat.{_≤_};
 ghost use lib.ListN.{length};
-ghost use Rattle.sweep.specs.Points.{Small};
-ghost use Rattle.words.specs.Archive.{reference, point};
+ghost use Rattle.hypervolume.specs.Sorted.{Small};
 ghost use Rattle.words.specs.Layout.{word};
-ghost use Rattle.words.specs.Format.{archive-rows, shape-allowed};
-ghost use Rattle.words.specs.Places.{as-row, as-shape};
-ghost use Rattle.ask.specs.RecordCounts.{PointsLoaded, CountedAll, CountedJoints};
-
-// The reference as a point.
-fn reference_of(s: Shape) -> Point
-    requires { ⌜ shape-allowed (as-shape s) ≡ true ⌝ }
-    ensures { λ r. ⌜ r .at ≡ reference (as-shape s) ⌝ }
-{
-    Point::new(s.rx, s.ry, s.rz)
-}
-
-// A record's point, whose coordinates are at most 1,048,576.
-pub fn point_of(row: Row) -> Point
-    requires { ⌜ Small (point (as-row row .trial)) ⌝ }
-    ensures { λ r. ⌜ r .at ≡ point (as-row row .trial) ⌝ }
-{
-    Point::new(row.x, row.y, row.z)
-}
-
-// The coordinates of the records but the one at place `skip` (of all where skip is the count), a slice for each axis.
-// Answers how many.
-fn load_points(w: &[u64], skip: usize, xs: &mut [u64], ys: &mut [u64], zs: &mut [u64]) -> usize
-    requires { ⌜ (archive-rows (now w) 0 ≡ 0) × (skip ≤ word (now w) 0) × (512 ≤ length (now xs)) × (512 ≤ length (now ys)) × (512 ≤ length (now zs)) ⌝ }
-    ensures { λ r. ⌜ PointsLoaded (now (w .entry)) skip r (now (xs .exit)) (now (ys .exit)) (now (zs .exit)) ⌝ }
-{
-    let n = w[0] as usize;
-    load(w, n, 1, skip, xs);
-    load(w, n, 2, skip, ys);
-    load(w, n, 3, skip, zs)
-}
+ghost use Rattle.words.specs.Format.{archive-rows};
+ghost use Rattle.ask.specs.RecordCounts.{CountedAll, CountedJoints};
 
 // The total of all records, and in `out` the contribution of each.
 pub fn count_all(w: &[u64], out: &mut [u64]) -> u64
     requires { ⌜ (archive-rows (now w) 0 ≡ 0) × (512 ≤ length (now out)) ⌝ }
     ensures { λ r. ⌜ CountedAll (now (w .entry)) (now (out .entry)) (now (out .exit)) r ⌝ }
 {
-    let mut xs = [0u64; 512];
-    let mut ys = [0u64; 512];
-    let mut zs = [0u64; 512];
-    let m = load_points(w, w[0] as usize, &mut xs, &mut ys, &mut zs);
-    sweep::sweep(&xs[..m], &ys[..m], &zs[..m], reference_of(shape_of(w)), out)
+    let mut points = [[0u32, 0, 0]; 512];
+    let mut line = [0u64; 512];
+    let m = load_points(w, w[0] as usize, &mut points);
+    sweep(&points[..m], reference_of(w), &mut line, out)
 }
 
-// The gain of p over the records but the one at place `skip` (over all where skip is the count), and in `out` its joint
-// count with each of them.
-pub fn count_joints(w: &[u64], skip: usize, p: Point, out: &mut [u64]) -> u64
-    requires { ⌜ (archive-rows (now w) 0 ≡ 0) × (skip ≤ word (now w) 0) × (512 ≤ length (now out)) × Small (p .at) ⌝ }
-    ensures { λ r. ⌜ CountedJoints (now (w .entry)) skip (p .at) (now (out .entry)) (now (out .exit)) r ⌝ }
+// The gain of p over the records but the one at place `skip` (over all where skip is the count), and its joint count
+// with each of them: `counts` has those at `places`, all others are 0.
+pub fn count_joints(
+    w: &[u64],
+    skip: usize,
+    p: Point,
+    places: &mut [u16],
+    counts: &mut [u64],
+) -> Updated
+    requires { ⌜ (archive-rows (now w) 0 ≡ 0) × (skip ≤ word (now w) 0) × (512 ≤ length (now places)) × (512 ≤ length (now counts)) × Small (p .at) ⌝ }
+    ensures { λ r. ⌜ CountedJoints (now (w .entry)) skip (p .at) (now (places .exit)) (now (counts .exit)) r ⌝ }
 {
-    let mut xs = [0u64; 512];
-    let mut ys = [0u64; 512];
-    let mut zs = [0u64; 512];
-    let m = load_points(w, skip, &mut xs, &mut ys, &mut zs);
-    corners::update(
-        &xs[..m],
-        &ys[..m],
-        &zs[..m],
+    let mut points = [[0u32, 0, 0]; 512];
+    let mut corners = [[0u32, 0, 0]; 512];
+    let mut line = [0u64; 512];
+    let m = load_points(w, skip, &mut points);
+    update(
+        &points[..m],
         p,
-        reference_of(shape_of(w)),
-        out,
+        reference_of(w),
+        &mut corners,
+        places,
+        &mut line,
+        counts,
     )
 }

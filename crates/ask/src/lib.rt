@@ -4,7 +4,6 @@ mod division;
 mod questions;
 
 pub use counts::count_joints;
-pub use counts::point_of;
 pub use questions::audit;
 pub use questions::audited;
 pub use questions::gain;

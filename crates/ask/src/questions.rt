@@ -2,19 +2,20 @@
 // rows 1 to 3 let pass.
 use crate::counts::count_all;
 use crate::counts::count_joints;
-use crate::counts::point_of;
 use crate::division::millionths;
 use calls::Answer;
 use calls::LeastAnswer;
+use hypervolume::Point;
+use records::amount_at;
 use records::least_place;
-use records::load;
 use records::some_differs;
 use words::Row;
 use words::box_of;
 use words::coordinates_allowed;
 use words::find;
+use words::record_at;
+use words::reference_of;
 use words::refusal;
-use words::row_at;
 use words::shape_of;
 ghost use mathlib.Core.Path.{_≡_};
 ghost use Prim.Native.Nat.{_<_};
@@ -22,6 +23,7 @@ ghost use Rattle.words.specs.Layout.{word, read};
 ghost use Rattle.words.specs.Format.{archive-rows};
 ghost use Rattle.words.specs.Places.{as-row, row-at};
 ghost use Rattle.calls.specs.Calls.{audited, joint-of};
+ghost use Rattle.records.specs.Columns.{place-but};
 ghost use Rattle.calls.specs.Lent.{least, share, joint, gain-answer, audit, trial-of};
 
 // Row 14 where no trial is held.
@@ -33,11 +35,11 @@ fn least_in(w: &[u64]) -> LeastAnswer
     if n == 0 {
         return LeastAnswer::refused(14);
     }
-    let row = row_at(w, least_place(w, n));
+    let least = record_at(w, least_place(w, n));
     LeastAnswer {
         refusal: 0,
-        number: row.number,
-        contribution: row.kept,
+        number: least.number,
+        contribution: least.kept,
     }
 }
 
@@ -52,18 +54,24 @@ pub fn least(w: &[u64]) -> LeastAnswer
     least_in(w)
 }
 
-// The joint contribution of the trials at two places: among the others of the first, the second stands one place
-// lower where it comes behind it.
+// The place of the record at k among the others of the one at i: one lower where it comes behind it.
+fn place_among(i: usize, k: usize) -> usize
+    requires { ⌜ (i ≡ k → ⊥) ⌝ }
+    ensures { λ r. ⌜ place-but i r ≡ k ⌝ }
+{
+    if i < k { k - 1 } else { k }
+}
+
+// The joint contribution of the trials at two places.
 fn joint_at(w: &[u64], i: usize, k: usize) -> u64
     requires { ⌜ (archive-rows (now w) 0 ≡ 0) × (i < word (now w) 0) × (k < word (now w) 0) × (i ≡ k → ⊥) ⌝ }
     ensures { λ r. ⌜ r ≡ joint-of (read (now (w .entry))) (row-at (now (w .entry)) i .trial .number) (row-at (now (w .entry)) k .trial .number) ⌝ }
 {
-    let mut joints = [0u64; 512];
-    count_joints(w, i, point_of(row_at(w, i)), &mut joints);
-    if i < k {
-        return joints[k - 1];
-    }
-    joints[k]
+    let mut places = [0u16; 512];
+    let mut counts = [0u64; 512];
+    let counted = count_joints(w, i, record_at(w, i).point, &mut places, &mut counts);
+    let m = counted.moved;
+    amount_at(&places[..m], &counts[..m], place_among(i, k))
 }
 
 // Rows 9 and 10.
@@ -105,9 +113,12 @@ fn gain_in(w: &[u64], row: Row) -> Answer
     if !coordinates_allowed(shape_of(w), row) {
         return Answer::refused(6);
     }
-    let mut joints = [0u64; 512];
+    let mut places = [0u16; 512];
+    let mut counts = [0u64; 512];
     let n = w[0] as usize;
-    Answer::done(count_joints(w, n, point_of(row), &mut joints))
+    let p = Point::new(row.x, row.y, row.z);
+    let counted = count_joints(w, n, p, &mut places, &mut counts);
+    Answer::done(counted.gain)
 }
 
 // Gain (point): cells that it dominates and no trial does.
@@ -134,7 +145,7 @@ fn share_in(w: &[u64]) -> Answer
     requires { ⌜ archive-rows (now w) 0 ≡ 0 ⌝ }
     ensures { λ r. ⌜ r ≡ share (now (w .entry)) ⌝ }
 {
-    Answer::done(millionths(w[5], box_of(shape_of(w))))
+    Answer::done(millionths(w[5], box_of(reference_of(w))))
 }
 
 // Share: the kept total in millionths of the box, rounded down.
@@ -155,13 +166,11 @@ pub fn audited(w: &[u64]) -> bool
 {
     let n = w[0] as usize;
     let mut counts = [0u64; 512];
-    let mut kept = [0u64; 512];
     let total = count_all(w, &mut counts);
-    load(w, n, 4, n, &mut kept);
     if w[5] != total {
         return false;
     }
-    !some_differs(&kept[..n], &counts[..n])
+    !some_differs(w, &counts[..n])
 }
 
 // Audit: 1 for yes.

@@ -4,6 +4,7 @@ pub mod Counted
 pub mod Order
 pub mod Sound
 pub mod Ranking
+pub mod Leading
 pub mod Drops
 pub mod Moves
 -- Laws of the calls over words: what is known of words that pass, and what a call answers and leaves.

@@ -41,12 +41,12 @@ unfoldable pub answer : ℕ → ℕ → Answer
 answer zero value = record { refusal = 0; value = value }
 answer (suc n) value = record { refusal = suc n; value = 0 }
 
--- Start. "Start checks 4 before 1"; "its earlier contents don't matter".
-unfoldable pub start-rows : List ℕ → Shape → ℕ
-start-rows w s = guard (not (shape-allowed s)) 4 (guard (ltb (length w) (extent (s .capacity))) 1 0)
+-- Start. "Start checks 4 before 1"; "its earlier contents don't matter": of the slice only the length is judged.
+unfoldable pub start-rows : ℕ → Shape → ℕ
+start-rows long s = guard (not (shape-allowed s)) 4 (guard (ltb long (extent (s .capacity))) 1 0)
 
 unfoldable pub start : List ℕ → Shape → Outcome
-start w s = leaves w [] (start-rows w s) 0 (layout (empty s) ++ drop (extent (s .capacity)) w) []
+start w s = leaves w [] (start-rows (length w) s) 0 (layout (empty s) ++ drop (extent (s .capacity)) w) []
 
 -- Insert (number, point).
 unfoldable pub insert : List ℕ → Trial → Outcome

@@ -20,8 +20,8 @@ use Rattle.calls.specs.Lent.{leaves, start-rows, start, insert}
 use Rattle.calls.proofs.Members.{place-length}
 use Rattle.calls.proofs.Counted.{insert-fits, inserted-counted, empty-counted, counted-is-counted}
 use Rattle.calls.proofs.Sound.{insert-passed, inserted-sound}
-use Rattle.card.specs.Card.{shape-on, trial-on, malformed, by-form, first-line, further-line, judged, further, from-first, lines, load}
-use Rattle.card.specs.Verdict.{refusal, in-turn, shape-rows, judge-further, judge, carried-out}
+use Rattle.card.specs.Card.{shape-on, trial-on, malformed, by-form, first-line, further-line, refused, accepted, judged, further, from-first, lines, load}
+use Rattle.card.specs.Verdict.{refusal, in-turn, judge-further, judge, answer-of, words-of, carried-out}
 
 -- An archive as loading leaves it after each line.
 pub record Fair (a : Archive) : Type 0 where
@@ -59,7 +59,7 @@ so-far before a = layout a ++ drop (extent (a .shape .capacity)) before
 
 further-judged : (before : List ℕ) (a : Archive) → Fair a → (ls : List (Option Numbers))
     → further before (so-far before a) (length (a .rows)) ls ≡ carried-out before (judge-further a ls)
-unfolding further judge-further carried-out further-line by-form malformed judged in-turn leaves inserted
+unfolding further judge-further carried-out answer-of words-of further-line by-form malformed refused accepted judged in-turn leaves inserted
 further-judged before a f [] = refl
 further-judged before a f (none ∷ ls) = refl
 further-judged before a f (some v ∷ ls) =
@@ -92,23 +92,23 @@ empty-fair s allowed =
       counted = rw (empty-counted s) (counted-is-counted s []);
     }
 
-pub shape-passed : (long : ℕ) (s : Shape) → shape-rows long s ≡ 0 → shape-allowed s ≡ true
-unfolding shape-rows
+pub shape-passed : (long : ℕ) (s : Shape) → start-rows long s ≡ 0 → shape-allowed s ≡ true
+unfolding start-rows
 shape-passed long s e = not-false _ (guard-none _ _ _ e .0)
 
 -- Loading comes to the verdict on the lines.
 first-judged : (w : List ℕ) (ls : List (Option Numbers)) → from-first w ls ≡ carried-out w (judge (length w) ls)
-unfolding from-first judge carried-out first-line by-form malformed judged in-turn start start-rows shape-rows leaves empty
+unfolding from-first judge carried-out answer-of words-of first-line by-form malformed refused judged in-turn start leaves empty
 first-judged w [] = refl
 first-judged w (none ∷ ls) = refl
-first-judged w (some v ∷ ls) = go (shape-rows (length w) s) refl
+first-judged w (some v ∷ ls) = go (start-rows (length w) s) refl
   where
     s : Shape
     s = shape-on v
 
-    go : (k : ℕ) → shape-rows (length w) s ≡ k
+    go : (k : ℕ) → start-rows (length w) s ≡ k
         → judged w (start w s .refusal) 1 (further w (start w s .words) 0 ls)
-        ≡ carried-out w (in-turn (shape-rows (length w) s) 1 (judge-further (empty s) ls))
+        ≡ carried-out w (in-turn (start-rows (length w) s) 1 (judge-further (empty s) ls))
     go zero e = rw e (further-judged w (empty s) (empty-fair s (shape-passed (length w) s e)) ls)
     go (suc n) e = rw e
 

@@ -1,5 +1,5 @@
 -- Laws of the verdict on a card's lines: which rows turn it down, and what it does not depend on.
-use Prim.Native.Nat.{ℕ, zero, suc, _+_, _*_, _≤_, min}
+use Prim.Native.Nat.{ℕ, zero, suc, _+_, _*_, _≤_}
 use mathlib.Core.Path.{_≡_, refl, ap}
 use mathlib.Core.Bool.{Bool, true, false, not}
 use mathlib.Core.List.{List, _∷_, []}
@@ -7,16 +7,17 @@ use mathlib.Core.Option.{Option, none, some}
 use native.Mathlib.Omega.{arith}
 use lib.Dec.{ltb}
 use lib.ListN.{length, take}
-use borrow.Author.Tests.{lt-ltb, le-ltb}
-use Rattle.hypervolume.proofs.Tests.{Compared, below, above, compared}
+use borrow.Author.Tests.{le-ltb}
 use Rattle.text.specs.Lines.{Numbers}
 use Rattle.words.specs.Archive.{Archive}
 use Rattle.words.specs.Layout.{extent}
 use Rattle.words.specs.Format.{guard, shape-allowed}
 use Rattle.words.proofs.Passed.{shape-bounds}
 use Rattle.calls.specs.Calls.{empty, inserted, admission-rows}
+use Rattle.calls.specs.Lent.{start-rows}
+use Rattle.card.specs.declared.Loaded.{Loaded}
 use Rattle.card.specs.Card.{shape-on, trial-on}
-use Rattle.card.specs.Verdict.{Verdict, refusal, archive, in-turn, shape-rows, judge-further, judge}
+use Rattle.card.specs.Verdict.{Verdict, refusal, archive, in-turn, judge-further, judge, answer-of}
 use Rattle.card.specs.Theorems.{TurnedDown, form, shape, slice, number, coordinate, held, full}
 use Rattle.card.proofs.Judging.{Fair, inserted-fair, inserted-count, empty-fair, shape-passed}
 
@@ -62,34 +63,43 @@ shape-possible false true rest more = refused slice
 shape-possible false false rest more = more refl
 
 pub possible : (long : ℕ) (ls : List (Option Numbers)) → Possible (judge long ls)
-unfolding judge shape-rows
+unfolding judge start-rows
 possible long [] = refused (form {line = 1} (omega arith) (omega arith))
 possible long (none ∷ ls) = refused (form {line = 1} (omega arith) (omega arith))
 possible long (some v ∷ ls) =
     shape-possible _ _ _ (λ e. further-possible (empty (shape-on v)) (empty-fair (shape-on v) (shape-passed long (shape-on v) e)) ls)
 
 -- A slice that is long enough for every capacity is as good as a longer one.
-enough : (p : Bool) (long capacity : ℕ) → (p ≡ true → capacity ≤ 512)
-    → guard (not p) 4 (guard (ltb (min long (extent 512)) (extent capacity)) 1 0) ≡ guard (not p) 4 (guard (ltb long (extent capacity)) 1 0)
+enough : (p : Bool) (long capacity : ℕ) → extent 512 ≤ long → (p ≡ true → capacity ≤ 512)
+    → guard (not p) 4 (guard (ltb (extent 512) (extent capacity)) 1 0) ≡ guard (not p) 4 (guard (ltb long (extent capacity)) 1 0)
 unfolding guard extent
-enough false long capacity most = refl
-enough true long capacity most = go (ltb long (8 + 5 * capacity)) (compared (suc long) (8 + 5 * capacity))
-  where
-    bound : capacity ≤ 512
-    bound = most refl
+enough false long capacity l most = refl
+enough true long capacity l most =
+    let bound : capacity ≤ 512 = most refl in
+    rw (le-ltb 2568 (8 + 5 * capacity) (omega arith), le-ltb long (8 + 5 * capacity) (omega arith))
 
-    go : (t : Bool) → Compared (suc long) (8 + 5 * capacity) t
-        → guard (ltb (min long 2568) (8 + 5 * capacity)) 1 0 ≡ guard t 1 0
-    go true (below l) = rw (lt-ltb (min long 2568) (8 + 5 * capacity) (omega (arith, bound)))
-    go false (above l) = rw (le-ltb (min long 2568) (8 + 5 * capacity) (omega (arith, bound)))
-
-pub judge-enough : (long : ℕ) (ls : List (Option Numbers)) → judge (min long (extent 512)) ls ≡ judge long ls
-unfolding judge shape-rows
-judge-enough long [] = refl
-judge-enough long (none ∷ ls) = refl
-judge-enough long (some v ∷ ls) =
+pub judge-enough : (long : ℕ) (ls : List (Option Numbers)) → extent 512 ≤ long → judge (extent 512) ls ≡ judge long ls
+unfolding judge start-rows
+judge-enough long [] l = refl
+judge-enough long (none ∷ ls) l = refl
+judge-enough long (some v ∷ ls) l =
     ap (λ k. in-turn k 1 (judge-further (empty (shape-on v)) ls))
-    (enough (shape-allowed (shape-on v)) long (shape-on v .capacity) (λ e. shape-bounds (shape-on v) e .capacity-high))
+    (enough (shape-allowed (shape-on v)) long (shape-on v .capacity) l (λ e. shape-bounds (shape-on v) e .capacity-high))
+
+-- A line that is refused, and one that is let in.
+pub in-turn-refused : (k line : ℕ) (rest : Verdict) → (k ≡ 0 → ⊥) → in-turn k line rest ≡ refusal k line
+unfolding in-turn
+in-turn-refused zero line rest other = absurd (other refl)
+in-turn-refused (suc k) line rest other = refl
+
+pub in-turn-passed : (k line : ℕ) (rest : Verdict) → k ≡ 0 → in-turn k line rest ≡ rest
+unfolding in-turn
+in-turn-passed k line rest e = rw e
+
+pub answers-refusal : {v : Verdict} {k line : ℕ} {r : Loaded} → v ≡ refusal k line → r ≡ record { refusal = k; line = line; count = 0 }
+    → r ≡ answer-of v
+unfolding answer-of
+answers-refusal e said = rw e said
 
 -- What matters of the rest of a card matters only where the line is let in.
 in-turn-alike : (k line : ℕ) {x y : Verdict} → (k ≡ 0 → x ≡ y) → in-turn k line x ≡ in-turn k line y
@@ -121,7 +131,7 @@ judge-cut long (some v ∷ ls) =
 -- Row 1 apart, a slice is as good as one that is long enough for every capacity.
 pub judge-unless-short : (long : ℕ) (ls : List (Option Numbers)) → (judge long ls ≡ refusal 1 1 → ⊥)
     → judge (extent 512) ls ≡ judge long ls
-unfolding judge shape-rows guard in-turn extent
+unfolding judge start-rows guard in-turn extent
 judge-unless-short long [] some-other = refl
 judge-unless-short long (none ∷ ls) some-other = refl
 judge-unless-short long (some v ∷ ls) some-other =

@@ -96,8 +96,8 @@ from-first w (l ∷ ls) = judged w (first-line w l .refusal) 1 (further w (first
 unfoldable pub load : List ℕ → List ℕ → Loading
 load w card = from-first w (lines card)
 
--- What the reading of a card into words of its own comes to: the answer of loading and, where the card is accepted,
--- the words too. Where it is refused, those words do not matter.
+-- What the reading of a card into words comes to: the answer of loading and, where the card is accepted, the words too.
+-- Where it is refused, what they hold does not matter: nobody but the reader sees them.
 pub record ReadInto (l : Loading) (r : Loaded) (after : List ℕ) : Type 0 where
   pub answer : r ≡ l .answer
   pub words : r .refusal ≡ 0 → after ≡ l .words

@@ -10,6 +10,7 @@ pub struct Loaded {
 
 mod lines;
 mod loading;
+mod verdict;
 
 pub use lines::Due;
 pub use lines::Reader;

@@ -1,12 +1,13 @@
-// Loading a card: first into words of its own, so that a refused card leaves the lent slice as it was.
+// Loading a card: it is judged first, so that a refused card leaves the lent slice as it was.
 use crate::Loaded;
 use crate::lines::Due;
 use crate::lines::read_line;
+use crate::verdict::judge;
+use crate::verdict::refused;
 use insertion::insert;
 use insertion::start;
 use text::Line;
 ghost use mathlib.Core.Path.{_≡_};
-ghost use Prim.Native.Nat.{min};
 ghost use lib.ListN.{length};
 ghost use Rattle.text.specs.Lines.{numbers-of};
 ghost use Rattle.card.specs.Card.{first-line, further-line, load, ReadInto};
@@ -44,16 +45,6 @@ fn further_line(w: &mut [u64], l: Line) -> u64
     insert(w, first, second, third, fourth)
 }
 
-fn refused(refusal: u64, line: u64) -> Loaded
-    ensures { λ r. ⌜ r ≡ record { refusal = refusal; line = line; count = 0 } ⌝ }
-{
-    Loaded {
-        refusal,
-        line,
-        count: 0,
-    }
-}
-
 // Loads the card into these words, line by line, and stops at the first line refused.
 pub fn read_card(w: &mut [u64], card: &[u8]) -> Loaded
     ensures { λ r. ⌜ ReadInto (load (now (w .entry)) (now (card .entry))) r (now (w .exit)) ⌝ }
@@ -87,33 +78,22 @@ pub fn long_enough() -> [u64; 2568]
     [0; 2568]
 }
 
-fn least(a: usize, b: usize) -> usize
-    ensures { λ r. ⌜ r ≡ min a b ⌝ }
-{
-    if a < b { a } else { b }
-}
-
 // Loads the card: the count of trials, or a refusal and its line. Words of the lent slice are written only once the
 // whole card is accepted.
 pub fn load(w: &mut [u64], card: &[u8]) -> Loaded
     ensures { λ r. ⌜ (r ≡ load (now (w .entry)) (now (card .entry)) .answer) × (now (w .exit) ≡ load (now (w .entry)) (now (card .entry)) .words) ⌝ }
 {
-    let mut words = long_enough();
-    let room = least(w.len(), 2568);
-    let answer = read_card(&mut words[..room], card);
+    let answer = judge(card, w.len());
     if answer.refusal != 0 {
         return answer;
     }
-    let end = 8 + 5 * words[1] as usize;
-    slices::copy(&words[..end], w, 0);
-    answer
+    read_card(w, card)
 }
 
 // Checks the card: 0 where it is accepted, else the refusal × 65,536 + the card line.
 pub fn check(card: &[u8]) -> u64
     ensures { λ r. ⌜ r ≡ check (now (card .entry)) ⌝ }
 {
-    let mut words = long_enough();
-    let answer = read_card(&mut words, card);
+    let answer = judge(card, 2568);
     answer.refusal * 65536 + answer.line
 }

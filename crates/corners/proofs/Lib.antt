@@ -1,3 +1,5 @@
--- Passing: which corners count. UpdateLaws: the counts of the corners that count are those of one more point.
+-- Passing: which corners count. SpreadLaws: what numbers at places say of a list. UpdateLaws: the counts of the corners
+-- that count are those of one more point.
 mod Passing
+mod SpreadLaws
 mod UpdateLaws

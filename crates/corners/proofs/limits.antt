@@ -1,5 +1,3 @@
 -- Laws of the limits, and of the corners within them.
-mod AxesLaws
-mod LimitsLaws
+pub mod LimitsLaws
 pub mod CollectLaws
-pub mod SpreadLaws

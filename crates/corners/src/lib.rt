@@ -1,37 +1,41 @@
 // One more point: its gain, and its joint contribution with each of the points, by its upper corners with them.
 use hypervolume::Point;
 ghost use mathlib.Core.Path.{_≡_};
-ghost use mathlib.Core.List.{_++_};
-ghost use lib.ListN.{length, drop};
+ghost use lib.ListN.{length};
+ghost use Rattle.slices.specs.Spread.{Sparse};
 ghost use Rattle.hypervolume.specs.Counts.{gain, joints};
-ghost use Rattle.sweep.specs.Points.{zip-points, Small, Ready};
+ghost use Rattle.corners.specs.Updating.{Updating};
 
 mod limits;
 
-// The gain of u over the points, and in `out` its joint contribution with each. A trial shares with u just what its
-// upper corner with u dominates; of the edge product of u the gain is what no corner dominates. Most corners lie beyond
-// a limit, where two others dominate all that they do: these change no count and have none, so only the rest is swept.
+// What one more point gains, and how many of the points have a joint contribution with it that need not be 0.
+pub struct Updated {
+    pub gain: u64,
+    pub moved: usize,
+}
+
+// The gain of u over the points, and its joint contribution with each: the first counts, for the points at the first
+// places. A trial shares with u just what its upper corner with u dominates; of the edge product of u the gain is what
+// no corner dominates. Most corners lie beyond a limit, where two others dominate all that they do: these change no
+// count and have none, so only the rest is swept. What the caller lends may hold anything.
 pub fn update(
-    xs: &[u64],
-    ys: &[u64],
-    zs: &[u64],
+    points: &[[u32; 3]],
     u: Point,
     reference: Point,
-    out: &mut [u64],
-) -> u64
-    requires { ⌜ Ready (now xs) (now ys) (now zs) (reference .at) (now out) × Small (u .at) ⌝ }
-    ensures gain { λ r. ⌜ r ≡ gain (reference .at) (zip-points (now (xs .entry)) (now (ys .entry)) (now (zs .entry))) (u .at) ⌝ }
-    ensures joints { λ r. ⌜ now (out .exit) ≡ joints (reference .at) (zip-points (now (xs .entry)) (now (ys .entry)) (now (zs .entry))) (u .at) ++ drop (length (now (xs .entry))) (now (out .entry)) ⌝ }
+    corners: &mut [[u32; 3]],
+    places: &mut [u16],
+    line: &mut [u64],
+    counts: &mut [u64],
+) -> Updated
+    requires { ⌜ Updating (now points) (u .at) (reference .at) (now corners) (now places) (now line) (now counts) ⌝ }
+    ensures gain { λ r. ⌜ r .gain ≡ gain (reference .at) (now (points .entry)) (u .at) ⌝ }
+    ensures joints { λ r. ⌜ Sparse (length (now (points .entry))) (joints (reference .at) (now (points .entry)) (u .at)) (now (places .exit)) (now (counts .exit)) (r .moved) ⌝ }
 {
-    let limit = limits::limits(xs, ys, zs, u);
-    let mut kx = [0u64; 512];
-    let mut ky = [0u64; 512];
-    let mut kz = [0u64; 512];
-    let mut places = [0u16; 512];
-    let m = limits::collect(xs, ys, zs, u, limit, &mut kx, &mut ky, &mut kz, &mut places);
-    let mut counts = [0u64; 512];
-    let covered = sweep::sweep(&kx[..m], &ky[..m], &kz[..m], reference, &mut counts);
-    slices::clear(out, 0, xs.len());
-    limits::spread(&counts[..m], &places[..m], out);
-    u.edges(reference) - covered
+    let limit = limits::limits(points, u);
+    let moved = limits::collect(points, u, limit, corners, places);
+    let covered = sweep::sweep(&corners[..moved], reference, line, counts);
+    Updated {
+        gain: u.edges(reference) - covered,
+        moved,
+    }
 }

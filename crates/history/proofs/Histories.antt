@@ -65,7 +65,7 @@ pub record Begun (before begun : List ℕ) (s : Shape) (b : Book) : Type 0 where
 pub started : (before : List ℕ) (s : Shape) → start before s .refusal ≡ 0 → Begun before (start before s .words) s (opened-by s)
 unfolding start start-rows
 started before s e =
-    let passed : start-rows before s ≡ 0 = sym (leaves-refusal before [] (start-rows before s) 0 _ []) ∙ e in
+    let passed : start-rows (length before) s ≡ 0 = sym (leaves-refusal before [] (start-rows (length before) s) 0 _ []) ∙ e in
     let shaped = guard-none _ _ _ passed in
     let long = guard-none _ _ _ (shaped .1) in
     let enough : extent (s .capacity) ≤ length before = ltb-false _ _ (long .0) in
@@ -75,7 +75,7 @@ started before s e =
           record {
             shape = unfold shape-of-book opened in refl;
             sound = rw (fresh-start s) (empty-sound s (not-false _ (shaped .0)));
-            words = ap (λ o. o .words) (leaves-unrefused before [] (start-rows before s) 0 _ [] e) ∙ unfold leaves fresh in rw (fresh-start s);
+            words = ap (λ o. o .words) (leaves-unrefused before [] (start-rows (length before) s) 0 _ [] e) ∙ unfold leaves fresh in rw (fresh-start s);
           };
     }
 

@@ -1,17 +1,19 @@
 -- The loops over the axes in `Point`: each goes through n axes in turn. What it has so far is stated for any n.
-use Prim.Native.Nat.{ℕ, zero, suc, _+_, _-_, _*_, _^_, _≤_, _<_, max}
+use Prim.Native.Nat.{ℕ, zero, suc, _+_, _-_, _*_, _/_, _^_, _≤_, _<_, max}
 use mathlib.Core.Path.{_≡_, refl, sym, ap, _∙_}
-use mathlib.Core.Bool.{true, false}
+use mathlib.Core.Bool.{Bool, true, false}
 use mathlib.Core.List.{List, _∷_, []}
 use native.Mathlib.Nat.{one-mul, mul-one, mul-assoc, mul-le-mul, pow-suc, pow-le-pow-right}
-use native.Mathlib.Numerals.{add-one}
+use native.Mathlib.Numerals.{add-one, one-add}
 use native.Mathlib.Omega.{arith}
-use lib.Dec.{leb}
+use lib.Dec.{leb, eqb, eqb·suc-suc}
 use lib.ListN.{length, getD, drop, set}
 use lib.Seq.{drop-cons, drop-length}
-use borrow.Author.Tests.{le-leb, lt-leb}
+use borrow.Author.Tests.{ne-eqb}
 use Rattle.slices.specs.Choices.{both}
-use Rattle.hypervolume.specs.Cells.{dominates, join, edges}
+use Rattle.hypervolume.specs.Cells.{holds, dominates, join, edges}
+use Rattle.hypervolume.specs.Axes.{axes-within}
+use Rattle.hypervolume.proofs.Tests.{Compared, below, above, compared}
 
 -- Two points of n axes, of which the first have been gone through.
 pub record Along (n : ℕ) (p q : List ℕ) (axis : ℕ) : Type 0 where
@@ -62,39 +64,70 @@ joined-end {n} {p} {q} {corner} {axis} h l =
     let last : axis ≡ length p = omega arith in
     h .so-far ∙ ap (λ k. raised k p q) last ∙ raised-end p q (omega arith)
 
--- Dominance: the axes left decide.
-pub record AxesPassed (n : ℕ) (p c : List ℕ) (axis : ℕ) : Type 0 where
-  pub along : Along n p c axis
-  pub so-far : dominates p c ≡ dominates (drop axis p) (drop axis c)
+-- A test of two coordinates, as a bit.
+pub at-most-bit : (x y : ℕ) → x < 4294967296 → y < 4294967296 → (y + 4294967296 - x) / 4294967296 ≡ holds (leb x y)
+unfolding holds
+at-most-bit x y l m = go (leb x y) (compared x y)
+  where
+    go : (b : Bool) → Compared x y b → (y + 4294967296 - x) / 4294967296 ≡ holds b
+    go true (below n) = omega arith
+    go false (above n) = omega arith
 
-pub passed-none : (n : ℕ) (p c : List ℕ) → length p ≡ n → length c ≡ n → AxesPassed n p c 0
-passed-none n p c e f = record { along = record { left = e; right = f; within = omega arith }; so-far = refl }
+-- How many axes are within: those so far, and those left.
+pub record AxesCounted (n : ℕ) (p q : List ℕ) (axes axis : ℕ) : Type 0 where
+  pub along : Along n p q axis
+  pub so-far : axes + axes-within (drop axis p) (drop axis q) ≡ axes-within p q
+  pub most : axes ≤ axis
 
-passed-step : {n : ℕ} {p c : List ℕ} {axis : ℕ} → AxesPassed n p c axis → axis < n → dominates p c ≡ both (leb (getD p axis 0) (getD c axis 0)) (dominates (drop (axis + 1) p) (drop (axis + 1) c))
-unfolding dominates
-passed-step {n} {p} {c} {axis} h l =
+pub counted-none : (n : ℕ) (p q : List ℕ) → length p ≡ n → length q ≡ n → AxesCounted n p q 0 0
+counted-none n p q e f =
+    record { along = record { left = e; right = f; within = omega arith }; so-far = omega arith; most = omega arith }
+
+test-at-most : (b : Bool) → holds b ≤ 1
+unfolding holds
+test-at-most true = omega arith
+test-at-most false = omega arith
+
+pub counted-more : {n : ℕ} {p q : List ℕ} {axes axis one : ℕ} → AxesCounted n p q axes axis → axis < n → one ≡ holds (leb (getD p axis 0) (getD q axis 0)) → AxesCounted n p q (axes + one) (axis + 1)
+unfolding axes-within
+counted-more {n} {p} {q} {axes} {axis} {one} h l e =
     let m : axis < length p = omega arith in
-    let o : axis < length c = omega arith in
-    h .so-far ∙ rw (drop-cons p axis 0 m, drop-cons c axis 0 o, add-one axis)
-
-pub passed-more : {n : ℕ} {p c : List ℕ} {axis : ℕ} → AxesPassed n p c axis → axis < n → getD p axis 0 ≤ getD c axis 0 → AxesPassed n p c (axis + 1)
-unfolding both
-passed-more {n} {p} {c} {axis} h l e =
+    let o : axis < length q = omega arith in
+    let left : axes + (one + axes-within (drop (suc axis) p) (drop (suc axis) q)) ≡ axes-within p q =
+    rw e (rw (drop-cons p axis 0 m, drop-cons q axis 0 o) at (h .so-far)) in
     record {
       along = along-more (h .along) l;
-      so-far = passed-step h l ∙ rw (le-leb (getD p axis 0) (getD c axis 0) e);
+      so-far = rw (add-one axis) (omega arith);
+      most = omega (arith, h .most, test-at-most (leb (getD p axis 0) (getD q axis 0)));
     }
 
-pub passed-stop : {n : ℕ} {p c : List ℕ} {axis : ℕ} → AxesPassed n p c axis → axis < n → getD c axis 0 < getD p axis 0 → false ≡ dominates p c
-unfolding both
-passed-stop {n} {p} {c} {axis} h l e =
-    sym (passed-step h l ∙ rw (lt-leb (getD p axis 0) (getD c axis 0) e))
-
-pub passed-end : {n : ℕ} {p c : List ℕ} {axis : ℕ} → AxesPassed n p c axis → n ≤ axis → true ≡ dominates p c
-unfolding dominates
-passed-end {n} {p} {c} {axis} h l =
+pub counted-end : {n : ℕ} {p q : List ℕ} {axes axis : ℕ} → AxesCounted n p q axes axis → n ≤ axis → axes ≡ axes-within p q
+unfolding axes-within
+counted-end {n} {p} {q} {axes} {axis} h l =
     let last : axis ≡ length p = omega arith in
-    sym (h .so-far ∙ rw (last, drop-length p))
+    let all : axes + 0 ≡ axes-within p q = rw (last, drop-length p) at (h .so-far) in
+    omega arith
+
+-- No point is within on more axes than it has; where it is on all of them, it dominates.
+pub axes-most : (p q : List ℕ) → axes-within p q ≤ length p
+unfolding axes-within
+axes-most [] q = omega arith
+axes-most (x ∷ p) [] = omega arith
+axes-most (x ∷ p) (y ∷ q) = omega (arith, test-at-most (leb x y), axes-most p q)
+
+axes-dominate : (p q : List ℕ) → length p ≡ length q → eqb (axes-within p q) (length p) ≡ dominates p q
+unfolding axes-within dominates both holds
+axes-dominate [] [] e = refl
+axes-dominate [] (y ∷ q) e = absurd (let no′ : ⊥ = omega arith in no′)
+axes-dominate (x ∷ p) [] e = absurd (let no′ : ⊥ = omega arith in no′)
+axes-dominate (x ∷ p) (y ∷ q) e = go (leb x y) (axes-dominate p q (omega arith)) (axes-most p q)
+  where
+    go : (b : Bool) → eqb (axes-within p q) (length p) ≡ dominates p q → axes-within p q ≤ length p → eqb (holds b + axes-within p q) (suc (length p)) ≡ both b (dominates p q)
+    go true same m = rw (one-add (axes-within p q), eqb·suc-suc (axes-within p q) (length p)) same
+    go false same m = ne-eqb (0 + axes-within p q) (suc (length p)) (λ k. omega arith)
+
+pub axes-all : {n axes : ℕ} (p q : List ℕ) → length p ≡ n → length q ≡ n → axes ≡ axes-within p q → eqb axes n ≡ dominates p q
+axes-all {n} {axes} p q e f g = rw (g, ← e) (axes-dominate p q (omega arith))
 
 -- The edge product: the product so far times the edge product on the axes left.
 pub record Multiplied (n : ℕ) (r p : List ℕ) (product axis : ℕ) : Type 0 where

@@ -1,3 +1,6 @@
--- What the archive counts: document 01, "Points and cells". Read Cells first, then Counts.
+-- What the archive counts: document 01, "Points and cells". Read Cells first, then Counts. Axes and Sorted are for the
+-- contracts of the code.
 pub mod Cells
 pub mod Counts
+pub mod Axes
+pub mod Sorted

@@ -1,9 +1,12 @@
-// Points by value, indexed by axis, and their operations: upper corner, dominance and edge product.
+// Points by value, indexed by axis, and their operations: upper corner, dominance and edge product. A list of points is a
+// slice of their coordinates, three to a point.
 ghost use mathlib.Core.Path.{_≡_};
 ghost use mathlib.Core.List.{_∷_, []};
 ghost use Prim.Native.Nat.{ℕ, _-_, _≤_, _<_, _*_, max};
-ghost use lib.ListN.{getD};
-ghost use Rattle.hypervolume.specs.Cells.{dominates, join, edges};
+ghost use lib.Dec.{leb};
+ghost use lib.ListN.{length, getD, set};
+ghost use Rattle.hypervolume.specs.Cells.{holds, dominates, join, edges};
+ghost use Rattle.hypervolume.specs.Axes.{axes-within};
 
 pub mod number;
 
@@ -13,10 +16,34 @@ pub struct Point {
 }
 
 // The larger of two coordinates.
-fn larger(x: u32, y: u32) -> u32
+pub fn larger(x: u32, y: u32) -> u32
     ensures { λ r. ⌜ r ≡ max x y ⌝ }
 {
     if x < y { y } else { x }
+}
+
+// 1 where a coordinate is at most another, else 0. By arithmetic: a choice would become a branch that nothing foretells.
+fn at_most(x: u32, y: u32) -> u32
+    ensures { λ r. ⌜ r ≡ holds (leb x y) ⌝ }
+{
+    ((y as u64 + 4294967296 - x as u64) / 4294967296) as u32
+}
+
+// The point at place i of a list of points.
+pub fn point_at(points: &[[u32; 3]], i: usize) -> Point
+    requires { ⌜ i < length (now points) ⌝ }
+    ensures { λ r. ⌜ r .at ≡ getD (now (points .entry)) i [] ⌝ }
+{
+    Point { at: points[i] }
+}
+
+// Puts a point at place i.
+pub fn put_point(points: &mut [[u32; 3]], i: usize, p: Point)
+    requires { ⌜ i < length (now points) ⌝ }
+    ensures { λ _. ⌜ now (points .exit) ≡ set (now (points .entry)) i (p .at) ⌝ }
+{
+    let at = p.at;
+    points[i] = at;
 }
 
 // The edge length on one axis: the reference less the coordinate, or 0 past the reference.
@@ -52,16 +79,22 @@ impl Point {
         corner
     }
 
+    // On how many axes this point is at most the other. A sum of tests takes no branch, where a chain of them would.
+    pub fn axes_within(self, other: Point) -> u32
+        ensures { λ r. ⌜ r ≡ axes-within (self .at) (other .at) ⌝ }
+    {
+        let mut axes: u32 = 0;
+        for axis in 0..3usize {
+            axes = axes + at_most(self.at[axis], other.at[axis]);
+        }
+        axes
+    }
+
     // Whether this point dominates the cell.
     pub fn dominates(self, cell: Point) -> bool
         ensures { λ r. ⌜ r ≡ dominates (self .at) (cell .at) ⌝ }
     {
-        for axis in 0..3usize {
-            if cell.at[axis] < self.at[axis] {
-                return false;
-            }
-        }
-        true
+        self.axes_within(cell) == 3
     }
 
     // The edge product under a reference of at most 1,048,576 on each axis: the cells that this point dominates.

@@ -1,27 +1,29 @@
 // Insert: rows 5 to 8 and 13, then the record in its place and every contribution moved by the counted amount.
 use ask::count_joints;
-use ask::point_of;
+use hypervolume::Point;
 use records::Moved;
-use records::enter;
-use records::keep;
-use records::load;
-use records::lower;
+use records::enough;
+use records::enter_at;
+use records::lower_at;
+use records::rank;
+use words::Record;
 use words::Row;
 use words::box_of;
 use words::coordinates_allowed;
 use words::find;
 use words::number_allowed;
+use words::reference_of;
 use words::refusal;
 use words::shape_of;
 ghost use mathlib.Core.Path.{_≡_};
-ghost use mathlib.Core.Bool.{true};
 ghost use mathlib.Core.List.{_++_};
-ghost use Prim.Native.Nat.{_≤_, _<_};
+ghost use Prim.Native.Nat.{ℕ, _≤_};
 ghost use lib.ListN.{length};
 ghost use Rattle.slices.specs.Choices.{pick};
+ghost use Rattle.hypervolume.specs.Sorted.{Small};
 ghost use Rattle.words.specs.Layout.{layout, read, behind};
-ghost use Rattle.words.specs.Format.{guard, archive-rows, coordinates-allowed};
-ghost use Rattle.words.specs.Places.{as-row};
+ghost use Rattle.words.specs.Format.{guard, archive-rows};
+ghost use Rattle.words.specs.Places.{as-row, as-trial};
 ghost use Rattle.calls.specs.Calls.{admission-rows, insert-overruns, inserted};
 ghost use Rattle.calls.specs.Lent.{insert, trial-of};
 ghost use Rattle.insertion.specs.Inserting.{InsertAmounts, InsertReady};
@@ -47,54 +49,63 @@ fn admission(w: &[u64], row: Row) -> u64
     0
 }
 
-// The gain of the new trial and, in `kept`, each contribution less its joint count with it, where these stay from 0 to
-// the box (row 13).
-fn lowered(w: &[u64], row: Row, kept: &mut [u64]) -> Moved
-    requires { ⌜ (archive-rows (now w) 0 ≡ 0) × (coordinates-allowed (read (now w) .shape) (as-row row .trial) ≡ true) × (512 ≤ length (now kept)) ⌝ }
-    ensures { λ r. ⌜ InsertAmounts (now (w .entry)) (as-row row .trial) (now (kept .exit)) r ⌝ }
+// The gain of the new trial, and its joint counts with the records at the places that have one; whether total and
+// contributions, moved by these, stay from 0 to the box (row 13).
+fn judge(w: &[u64], p: Point, places: &mut [u16], counts: &mut [u64]) -> Moved
+    requires { ⌜ (archive-rows (now w) 0 ≡ 0) × Small (p .at) × (512 ≤ length (now places)) × (512 ≤ length (now counts)) ⌝ }
+    ensures { λ r. ⌜ ((number : ℕ) → InsertAmounts (now (w .entry)) (as-trial number (p .at)) (now (places .exit)) (now (counts .exit)) r) ⌝ }
 {
     let n = w[0] as usize;
-    let mut joints = [0u64; 512];
-    let gain = count_joints(w, n, point_of(row), &mut joints);
-    load(w, n, 4, n, kept);
-    if box_of(shape_of(w)) < w[5] + gain {
+    let counted = count_joints(w, n, p, places, counts);
+    let m = counted.moved;
+    if box_of(reference_of(w)) < w[5] + counted.gain {
         return Moved {
-            amount: gain,
+            amount: counted.gain,
+            places: m,
             fits: false,
         };
     }
-    let fits = lower(&mut kept[..n], &joints[..n]);
-    Moved { amount: gain, fits }
+    let fits = enough(w, n, &places[..m], &counts[..m]);
+    Moved {
+        amount: counted.gain,
+        places: m,
+        fits,
+    }
 }
 
 // Writes the others' contributions, the new record and the header.
-fn store(w: &mut [u64], row: Row, gain: u64, kept: &[u64])
-    requires { ⌜ InsertReady (now w) (as-row row .trial) gain (now kept) ⌝ }
-    ensures { λ _. ⌜ now (w .exit) ≡ layout (inserted (read (now (w .entry))) (as-row row .trial)) ++ behind (now (w .entry)) ⌝ }
+fn store(w: &mut [u64], number: u64, p: Point, gain: u64, places: &[u16], counts: &[u64])
+    requires { ⌜ InsertReady (now w) (as-trial number (p .at)) gain (now places) (now counts) ⌝ }
+    ensures { λ _. ⌜ now (w .exit) ≡ layout (inserted (read (now (w .entry))) (as-trial number (p .at))) ++ behind (now (w .entry)) ⌝ }
 {
     let n = w[0] as usize;
-    let mut new = row;
-    new.kept = gain;
+    let new = Record {
+        number,
+        point: p,
+        kept: gain,
+    };
     let total = w[5] + gain;
-    keep(w, n, kept);
-    enter(w, n, new);
+    let k = rank(w, n, new);
+    lower_at(w, n, places, counts);
+    enter_at(w, n, k, new);
     w[0] = (n + 1) as u64;
     w[5] = total;
 }
 
 // Row 13, or the insertion.
-fn put_in(w: &mut [u64], row: Row) -> u64
-    requires { ⌜ (archive-rows (now w) 0 ≡ 0) × (admission-rows (read (now w)) (as-row row .trial) 0 ≡ 0) ⌝ }
-    ensures answer { λ r. ⌜ r ≡ guard (insert-overruns (read (now (w .entry))) (as-row row .trial)) 13 0 ⌝ }
-    ensures words { λ r. ⌜ now (w .exit) ≡ pick (insert-overruns (read (now (w .entry))) (as-row row .trial)) (now (w .entry)) (layout (inserted (read (now (w .entry))) (as-row row .trial)) ++ behind (now (w .entry))) ⌝ }
+fn put_in(w: &mut [u64], number: u64, p: Point) -> u64
+    requires { ⌜ (archive-rows (now w) 0 ≡ 0) × (admission-rows (read (now w)) (as-trial number (p .at)) 0 ≡ 0) ⌝ }
+    ensures answer { λ r. ⌜ r ≡ guard (insert-overruns (read (now (w .entry))) (as-trial number (p .at))) 13 0 ⌝ }
+    ensures words { λ r. ⌜ now (w .exit) ≡ pick (insert-overruns (read (now (w .entry))) (as-trial number (p .at))) (now (w .entry)) (layout (inserted (read (now (w .entry))) (as-trial number (p .at))) ++ behind (now (w .entry))) ⌝ }
 {
-    let n = w[0] as usize;
-    let mut kept = [0u64; 512];
-    let moved = lowered(w, row, &mut kept);
+    let mut places = [0u16; 512];
+    let mut counts = [0u64; 512];
+    let moved = judge(w, p, &mut places, &mut counts);
     if !moved.fits {
         return 13;
     }
-    store(w, row, moved.amount, &kept[..n]);
+    let m = moved.places;
+    store(w, number, p, moved.amount, &places[..m], &counts[..m]);
     0
 }
 
@@ -117,5 +128,5 @@ pub fn insert(w: &mut [u64], number: u64, x: u64, y: u64, z: u64) -> u64
     if turned != 0 {
         return turned;
     }
-    put_in(w, row)
+    put_in(w, number, Point::new(x, y, z))
 }

@@ -4,3 +4,4 @@ mod starting;
 
 pub use inserting::insert;
 pub use starting::start;
+pub use starting::start_row;

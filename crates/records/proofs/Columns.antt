@@ -5,7 +5,7 @@ use mathlib.Core.List.{List, _∷_, _++_, []}
 use native.Mathlib.Omega.{arith}
 use lib.ListN.{length, take, drop, getD}
 use lib.Seq.{getD-drop, drop-drop}
-use Rattle.records.specs.Columns.{fifths, field-of, column}
+use Rattle.records.specs.Columns.{fifths, field-of, column, rekept}
 use native.Mathlib.Nat.{add-comm, sub-zero}
 use Rattle.words.specs.Archive.{Row}
 use Rattle.words.specs.Layout.{record-words, read-row, read-rows}
@@ -66,6 +66,18 @@ pub length-column : (k : ℕ) (rows : List Row) → length (column k rows) ≡ l
 unfolding column
 length-column k [] = refl
 length-column k (r ∷ rows) = ap suc (length-column k rows)
+
+pub column-at : (k : ℕ) (rows : List Row) (i : ℕ) (d : Row) → i < length rows → getD (column k rows) i 0 ≡ field-of k (getD rows i d)
+unfolding column
+column-at k [] i d l = absurd (let no′ : ⊥ = omega arith in no′)
+column-at k (r ∷ rows) zero d l = refl
+column-at k (r ∷ rows) (suc i) d l = column-at k rows i d (omega arith)
+
+pub length-rekept : (rows : List Row) (vs : List ℕ) → length (rekept rows vs) ≡ length rows
+unfolding rekept
+length-rekept [] vs = refl
+length-rekept (r ∷ rows) [] = refl
+length-rekept (r ∷ rows) (v ∷ vs) = ap suc (length-rekept rows vs)
 
 -- A column of some of the records, from the words.
 pub column-front : (k m n : ℕ) (w : List ℕ) → k < 5 → m ≤ n → fifths m (drop (8 + k) w) ≡ column k (take m (read-rows n (drop 8 w)))

@@ -1,4 +1,4 @@
--- Laws of the functions over one field of the records.
+-- Laws of the functions over one field of the records, and over their points.
 pub mod Gathered
 pub mod Loading
-pub mod Keeping
+pub mod LoadedPoints

@@ -1,8 +1,10 @@
 -- One field of consecutive records: how it lies in the words, and as a list. Used by the contracts of the inner
 -- functions; no exported contract cites it.
-use Prim.Native.Nat.{ℕ, zero, suc}
+use Prim.Native.Nat.{ℕ, zero, suc, _+_}
 use mathlib.Core.List.{List, _∷_, _++_, map, []}
+use lib.Dec.{ltb}
 use lib.ListN.{getD, take, drop}
+use Rattle.slices.specs.Choices.{pick}
 use Rattle.words.specs.Archive.{Row}
 use Rattle.words.specs.Layout.{record-words}
 
@@ -21,6 +23,10 @@ column k rows = map (field-of k) rows
 -- The records but the one at place k; all of them where there is none.
 unfoldable pub leave-out : ℕ → List Row → List Row
 leave-out k rows = take k rows ++ drop (suc k) rows
+
+-- The place among all records of the one at place p of the records but the one at place k.
+unfoldable pub place-but : ℕ → ℕ → ℕ
+place-but k p = pick (ltb p k) p (p + 1)
 
 -- These records with these kept contributions.
 unfoldable pub rekept : List Row → List ℕ → List Row

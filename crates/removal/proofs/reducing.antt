@@ -1,4 +1,5 @@
 -- Laws of reduce and its steps.
 pub mod Rows
 pub mod Dropping
+pub mod Storing
 pub mod Outcomes

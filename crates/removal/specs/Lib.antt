@@ -1,2 +1,3 @@
--- For the contracts of the steps of a removal; no exported contract cites it.
+-- For the contracts of the steps of a removal and of a reduction; no exported contract cites them.
 pub mod Removing
+pub mod Columns

@@ -1,4 +1,6 @@
 // Remove and reduce: the calls by which trials leave an archive.
+mod columns;
+mod dropping;
 mod reducing;
 mod removing;
 

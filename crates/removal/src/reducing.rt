@@ -1,20 +1,27 @@
-// Reduce: rows 11, 12 and 13, then drops of the least contributor of each moment. One audit; each drop is one update.
-use crate::removing::take_out;
+// Reduce: rows 11, 12 and 13, then drops of the least contributor of each moment. One audit; the columns are loaded once,
+// each drop is one update of them, and the words are written once.
+use crate::columns::put_records;
+use crate::dropping::drop_least;
 use ask::audited;
 use calls::Answer;
-use records::least_place;
-use slices::copy;
+use hypervolume::Point;
+use records::load;
+use records::load_points;
+use slices::clear;
+use words::reference_of;
 use words::refusal;
 ghost use mathlib.Core.Path.{_≡_};
 ghost use mathlib.Core.List.{_++_};
-ghost use Prim.Native.Nat.{_+_, _*_, _≤_, _<_};
+ghost use Prim.Native.Nat.{_-_, _*_, _≤_};
 ghost use lib.ListN.{length};
 ghost use Rattle.slices.specs.Put.{put};
+ghost use Rattle.words.specs.Archive.{Archive};
 ghost use Rattle.words.specs.Layout.{word, layout, read, behind};
 ghost use Rattle.words.specs.Format.{archive-rows};
-ghost use Rattle.calls.specs.Calls.{reduce-rows, dropped, note, after-drops, notes};
+ghost use Rattle.calls.specs.Calls.{reduce-rows, after-drops, notes};
 ghost use Rattle.calls.specs.Counted.{IsCounted};
 ghost use Rattle.calls.specs.Lent.{reduce, MeetsOutcome};
+ghost use Rattle.removal.specs.Columns.{InColumns, Droppable, DropReady, Storing, Stores};
 
 // Rows 11 to 13.
 fn reduce_rows(w: &[u64], k: u64, log: usize) -> u64
@@ -34,28 +41,91 @@ fn reduce_rows(w: &[u64], k: u64, log: usize) -> u64
     0
 }
 
-// One drop: notes the least contributor at `at`, and takes it out.
-fn drop_least(w: &mut [u64], log: &mut [u64], at: usize)
-    requires { ⌜ (archive-rows (now w) 0 ≡ 0) × IsCounted (read (now w)) × (0 < word (now w) 0) × (at + 2 ≤ length (now log)) ⌝ }
-    ensures { λ _. ⌜ (now (w .exit) ≡ layout (dropped (read (now (w .entry)))) ++ behind (now (w .entry))) × (now (log .exit) ≡ put (now (log .entry)) at (note (read (now (w .entry))))) ⌝ }
+// So many drops from the first n places of the columns, noted one behind the other. Answers the new total. What the counting
+// writes in is cleared once for all of them.
+fn drop_all(
+    numbers: &mut [u64],
+    points: &mut [[u32; 3]],
+    kept: &mut [u64],
+    n: usize,
+    total: u64,
+    reference: Point,
+    drops: usize,
+    log: &mut [u64],
+) -> u64
+    requires { ⌜ DropReady (reference .at) n total (now numbers) (now points) (now kept) × (n ≤ 512) × (drops ≤ n) × (2 * drops ≤ length (now log)) ⌝ }
+    ensures { λ r. ⌜ ((a : Archive) → InColumns a (reference .at) n total (now (numbers .entry)) (now (points .entry)) (now (kept .entry)) → Droppable a → InColumns (after-drops drops a) (reference .at) (n - drops) r (now (numbers .exit)) (now (points .exit)) (now (kept .exit)) × (now (log .exit) ≡ put (now (log .entry)) 0 (notes drops a))) ⌝ }
 {
-    let n = w[0] as usize;
-    let place = least_place(w, n);
-    let note = [w[8 + 5 * place], w[12 + 5 * place]];
-    copy(&note, log, at);
-    take_out(w, place);
+    let mut corners = [[0u32, 0, 0]; 512];
+    let mut places = [0u16; 512];
+    let mut line = [0u64; 512];
+    let mut counts = [0u64; 512];
+    let mut left = total;
+    let mut i = 0;
+    while i < drops {
+        left = drop_least(
+            numbers,
+            points,
+            kept,
+            n - i,
+            left,
+            reference,
+            &mut corners,
+            &mut places,
+            &mut line,
+            &mut counts,
+            log,
+            2 * i,
+        );
+        i += 1;
+    }
+    left
 }
 
-// So many drops, noted one behind the other.
-fn drop_all(w: &mut [u64], drops: usize, log: &mut [u64])
+// The first m records from their columns, zeros behind them up to the n of before, and the header's count and total.
+fn store(
+    w: &mut [u64],
+    n: usize,
+    m: usize,
+    total: u64,
+    numbers: &[u64],
+    points: &[[u32; 3]],
+    kept: &[u64],
+)
+    requires { ⌜ Storing (now w) n m (now numbers) (now points) (now kept) ⌝ }
+    ensures { λ _. ⌜ ((a : Archive) → Stores (now (w .entry)) a m total (now (numbers .entry)) (now (points .entry)) (now (kept .entry)) → now (w .exit) ≡ layout a ++ behind (now (w .entry))) ⌝ }
+{
+    put_records(w, m, numbers, points, kept);
+    clear(w, 8 + 5 * m, 5 * (n - m));
+    w[0] = m as u64;
+    w[5] = total;
+}
+
+// So many drops: the columns are loaded and written back once.
+fn reduce_by(w: &mut [u64], drops: usize, log: &mut [u64])
     requires { ⌜ (archive-rows (now w) 0 ≡ 0) × IsCounted (read (now w)) × (drops ≤ word (now w) 0) × (2 * drops ≤ length (now log)) ⌝ }
     ensures { λ _. ⌜ (now (w .exit) ≡ layout (after-drops drops (read (now (w .entry)))) ++ behind (now (w .entry))) × (now (log .exit) ≡ put (now (log .entry)) 0 (notes drops (read (now (w .entry))))) ⌝ }
 {
-    let mut i = 0;
-    while i < drops {
-        drop_least(w, log, 2 * i);
-        i += 1;
-    }
+    let n = w[0] as usize;
+    let total = w[5];
+    let reference = reference_of(w);
+    let mut numbers = [0u64; 512];
+    let mut points = [[0u32, 0, 0]; 512];
+    let mut kept = [0u64; 512];
+    load(w, n, 0, &mut numbers);
+    load_points(w, n, &mut points);
+    load(w, n, 4, &mut kept);
+    let left = drop_all(
+        &mut numbers,
+        &mut points,
+        &mut kept,
+        n,
+        total,
+        reference,
+        drops,
+        log,
+    );
+    store(w, n, n - drops, left, &numbers, &points, &kept);
 }
 
 // Reduce (k, log). Answers the count of drops.
@@ -71,6 +141,6 @@ pub fn reduce(w: &mut [u64], k: u64, log: &mut [u64]) -> Answer
         return Answer::refused(turned);
     }
     let drops = w[0] - k;
-    drop_all(w, drops as usize, log);
+    reduce_by(w, drops as usize, log);
     Answer::done(drops)
 }

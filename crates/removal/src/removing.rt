@@ -1,17 +1,14 @@
 // Remove: rows 9 and 13, then the record struck out and every other contribution moved by the counted amount.
 use ask::count_joints;
-use ask::point_of;
 use records::Moved;
-use records::keep;
-use records::load;
-use records::raise;
+use records::raise_at;
 use records::strike;
-use words::Row;
+use records::within;
 use words::box_of;
 use words::find;
+use words::record_at;
+use words::reference_of;
 use words::refusal;
-use words::row_at;
-use words::shape_of;
 ghost use mathlib.Core.Path.{_≡_};
 ghost use mathlib.Core.List.{_++_};
 ghost use Prim.Native.Nat.{_≤_, _<_};
@@ -19,42 +16,44 @@ ghost use lib.ListN.{length};
 ghost use Rattle.slices.specs.Choices.{pick};
 ghost use Rattle.words.specs.Layout.{word, layout, read, behind};
 ghost use Rattle.words.specs.Format.{guard, archive-rows};
-ghost use Rattle.words.specs.Places.{as-row, row-at};
 ghost use Rattle.calls.specs.Calls.{remove-overruns, removed};
 ghost use Rattle.calls.specs.Lent.{remove};
 ghost use Rattle.removal.specs.Removing.{number-at, RemoveAmounts, RemoveReady};
 
-// The loss of the trial at place k and, in `kept`, each other contribution with its joint count, where these stay from 0
-// to the box (row 13).
-fn raised(w: &[u64], k: usize, row: Row, kept: &mut [u64]) -> Moved
-    requires { ⌜ (archive-rows (now w) 0 ≡ 0) × (k < word (now w) 0) × (as-row row ≡ row-at (now w) k) × (512 ≤ length (now kept)) ⌝ }
-    ensures { λ r. ⌜ RemoveAmounts (now (w .entry)) k (now (kept .exit)) r ⌝ }
+// The loss of the trial at place k, its joint counts with the others, said by the places of those that need not be 0, and
+// whether the total and all contributions stay from 0 to the box (row 13).
+fn raised(w: &[u64], k: usize, places: &mut [u16], counts: &mut [u64]) -> Moved
+    requires { ⌜ (archive-rows (now w) 0 ≡ 0) × (k < word (now w) 0) × (512 ≤ length (now places)) × (512 ≤ length (now counts)) ⌝ }
+    ensures { λ r. ⌜ RemoveAmounts (now (w .entry)) k (now (places .exit)) (now (counts .exit)) r ⌝ }
 {
     let n = w[0] as usize;
-    let mut joints = [0u64; 512];
-    let loss = count_joints(w, k, point_of(row), &mut joints);
-    load(w, n, 4, k, kept);
-    let m = n - 1;
-    if w[5] < loss {
+    let counted = count_joints(w, k, record_at(w, k).point, places, counts);
+    let m = counted.moved;
+    if w[5] < counted.gain {
         return Moved {
-            amount: loss,
+            amount: counted.gain,
+            places: m,
             fits: false,
         };
     }
-    let fits = raise(&mut kept[..m], &joints[..m], box_of(shape_of(w)));
-    Moved { amount: loss, fits }
+    let fits = within(w, n, k, &places[..m], &counts[..m], box_of(reference_of(w)));
+    Moved {
+        amount: counted.gain,
+        places: m,
+        fits,
+    }
 }
 
-// Strikes out the record at place k, and writes the others' contributions and the header.
-fn store(w: &mut [u64], k: usize, loss: u64, kept: &[u64])
-    requires { ⌜ RemoveReady (now w) k loss (now kept) ⌝ }
+// Strikes out the record at place k, raises the others' contributions at these places, and writes the header.
+fn store(w: &mut [u64], k: usize, loss: u64, places: &[u16], counts: &[u64])
+    requires { ⌜ RemoveReady (now w) k loss (now places) (now counts) ⌝ }
     ensures { λ _. ⌜ now (w .exit) ≡ layout (removed (read (now (w .entry))) (number-at (now (w .entry)) k)) ++ behind (now (w .entry)) ⌝ }
 {
     let n = w[0] as usize;
     let m = n - 1;
     let total = w[5] - loss;
     strike(w, n, k);
-    keep(w, m, kept);
+    raise_at(w, m, places, counts);
     w[0] = m as u64;
     w[5] = total;
 }
@@ -65,14 +64,14 @@ pub fn take_out(w: &mut [u64], k: usize) -> u64
     ensures answer { λ r. ⌜ r ≡ guard (remove-overruns (read (now (w .entry))) (number-at (now (w .entry)) k)) 13 0 ⌝ }
     ensures words { λ r. ⌜ now (w .exit) ≡ pick (remove-overruns (read (now (w .entry))) (number-at (now (w .entry)) k)) (now (w .entry)) (layout (removed (read (now (w .entry))) (number-at (now (w .entry)) k)) ++ behind (now (w .entry))) ⌝ }
 {
-    let m = w[0] as usize - 1;
-    let row = row_at(w, k);
-    let mut kept = [0u64; 512];
-    let moved = raised(w, k, row, &mut kept);
+    let mut places = [0u16; 512];
+    let mut counts = [0u64; 512];
+    let moved = raised(w, k, &mut places, &mut counts);
     if !moved.fits {
         return 13;
     }
-    store(w, k, moved.amount, &kept[..m]);
+    let m = moved.places;
+    store(w, k, moved.amount, &places[..m], &counts[..m]);
     0
 }
 

@@ -14,8 +14,9 @@ use Rattle.words.specs.Layout.{extent}
 use Rattle.words.specs.Format.{guard, within, each, shape-allowed, number-allowed, coordinates-allowed, held}
 use Rattle.words.proofs.Reading.{read-layout}
 use Rattle.calls.specs.Calls.{empty, place, insert-gain, joint-with, lowered, inserted, admission-rows}
-use Rattle.card.specs.Card.{shape-on, trial-on, line-count, lines-from, lines, accepted}
-use Rattle.card.specs.Verdict.{archive, in-turn, shape-rows, judge-further, judge, carried-out}
+use Rattle.calls.specs.Lent.{start-rows}
+use Rattle.card.specs.Card.{shape-on, trial-on, line-count, lines-from, lines}
+use Rattle.card.specs.Verdict.{archive, in-turn, judge-further, judge, answer-of, words-of, carried-out}
 use Rattle.card.proofs.Judging.{loads}
 use Rattle.reports.specs.Report.{report-line, head-line, record-line, record-lines, report-text}
 use Rattle.reports.specs.Printed.{shown, loaded, printed}
@@ -36,7 +37,7 @@ example =
     }
 
 judged-example : judge 2568 (lines example-card) ≡ archive example
-unfolding judge judge-further in-turn shape-rows shape-on trial-on lines lines-from line-count line four field-from field
+unfolding judge judge-further in-turn start-rows shape-on trial-on lines lines-from line-count line four field-from field
     number decimal pick is-digit line-of justified digits example-card example
     empty place insert-gain joint-with lowered inserted admission-rows guard within each shape-allowed number-allowed
     coordinates-allowed held extent trials points either ascends before cover joint gain both holds dominates sum cells count
@@ -55,7 +56,7 @@ loaded-example =
 
 -- The verdict's archive is what is shown.
 shown-archive : (before : List ℕ) (a : Archive) → shown (carried-out before (archive a) .answer .refusal) (carried-out before (archive a)) ≡ report-text a
-unfolding shown carried-out accepted
+unfolding shown carried-out answer-of words-of
 shown-archive before a = ap report-text (read-layout a _)
 
 pub example-printed : printed example-card ≡ example-report

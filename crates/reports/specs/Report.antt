@@ -1,5 +1,6 @@
 -- The report (document 01, "Card and report").
 use Prim.Native.Nat.{ℕ, zero, suc, _+_, _*_, _≤_}
+use mathlib.Core.Path.{_≡_}
 use mathlib.Core.List.{List, _∷_, _++_, []}
 use lib.Dec.{ltb}
 use lib.ListN.{length}
@@ -51,7 +52,7 @@ output (suc n) text out = out
 unfoldable pub reported : List ℕ → List ℕ → List ℕ
 reported w out = output (report-rows w out) (report-text (read w)) out
 
--- What writing the lines of the records asks: the words hold as many records as they say, and the output has room.
+-- What writing the lines of the records asks: rows 1 to 3 let the words pass, and the output has room.
 pub record ReportRoom (w out : List ℕ) : Type 0 where
-  pub held : 8 + 5 * word w 0 ≤ length w
+  pub passes : archive-rows w 0 ≡ 0
   pub room : 53 * (word w 0 + 1) ≤ length out

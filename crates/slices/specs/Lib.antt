@@ -1,3 +1,4 @@
--- What every other crate stands on: choices by a test, and words put into a slice.
+-- What every other crate stands on: choices by a test, words put into a slice, and numbers spread over places.
 pub mod Choices
 pub mod Put
+pub mod Spread

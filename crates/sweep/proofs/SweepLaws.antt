@@ -1,7 +1,7 @@
 -- The sweep: after i points, the total of these and the contribution of each among them.
 use Prim.Native.Nat.{ℕ, suc, _+_, _-_, _*_, _^_, _≤_, _<_}
 use mathlib.Core.Path.{_≡_, refl, sym, _∙_}
-use mathlib.Core.List.{List, _∷_, _++_, []}
+use mathlib.Core.List.{List, _∷_, _++_, map, []}
 use native.Mathlib.Nat.{mul-one, mul-zero}
 use native.Mathlib.Decide.{decLe}
 use native.Mathlib.Numerals.{add-one}
@@ -14,34 +14,35 @@ use Rattle.hypervolume.proofs.Dominance.{first}
 use Rattle.hypervolume.proofs.Counting.{total-none, total-le-box}
 use Rattle.hypervolume.proofs.Axes.{FirstAtMost}
 use Rattle.line.specs.declared.column.Column.{Column}
-use Rattle.sweep.specs.Points.{zip-points, Ready}
+use Rattle.hypervolume.specs.Sorted.{Small}
+use Rattle.sweep.specs.Points.{Ready}
 use Rattle.line.specs.Line.{entry-of, x-of, index-of, flag-of, Rising, Flagged, Ranked}
 use Rattle.strips.specs.Strips.{shared-with, Seen, Crossing, Crossed}
 use Rattle.line.specs.Entries.{Entering, Entered}
-use Rattle.sweep.proofs.Coordinates.{ascending-at, points-length, points-at, total-turned, contribution-turned, three}
+use Rattle.sweep.proofs.Coordinates.{three, ascending-at, turn, turn-three, total-turned, contribution-turned}
 use Rattle.sweep.proofs.Front.{getD-mapped, front-then}
 use Rattle.strips.proofs.SettleLaws.{three-fit}
 use Rattle.line.proofs.Flags.{flagged-front}
 use Rattle.sweep.proofs.Layers.{LineFor, line-for-none, line-for-more, at-first, shared-with-none, next-total, next-own, next-other}
 use Rattle.line.proofs.Entries.{below-lift, below-at}
 
-pub record Progress (xs ys zs out : List ℕ) (rx ry rz i held volume : ℕ) (line left : List ℕ) : Type 0 where
-  pub ready : Ready xs ys zs (rx ∷ ry ∷ rz ∷ []) out
-  pub within : i ≤ length xs
-  pub long : length line ≡ 512
+pub record Progress (ps : List (List ℕ)) (line₀ out : List ℕ) (rx ry rz i held volume : ℕ) (line left : List ℕ) : Type 0 where
+  pub ready : Ready ps (rx ∷ ry ∷ rz ∷ []) line₀ out
+  pub within : i ≤ length ps
+  pub long : length line ≡ length line₀
   pub alike : length left ≡ length out
-  pub counted : volume ≡ total (rz ∷ rx ∷ ry ∷ []) (take i (zip-points zs xs ys))
-  pub each : (j : ℕ) → j < i → getD left j 0 ≡ contribution (rz ∷ rx ∷ ry ∷ []) (take i (zip-points zs xs ys)) (getD (zip-points zs xs ys) j [])
+  pub counted : volume ≡ total (rz ∷ rx ∷ ry ∷ []) (take i (map turn ps))
+  pub each : (j : ℕ) → j < i → getD left j 0 ≡ contribution (rz ∷ rx ∷ ry ∷ []) (take i (map turn ps)) (getD (map turn ps) j [])
   pub behind : (j : ℕ) → i ≤ j → getD left j 0 ≡ getD out j 0
   pub few : held ≤ i
-  pub lined : LineFor ry (take i (zip-points zs xs ys)) (take held line)
+  pub lined : LineFor ry (take i (map turn ps)) (take held line)
 
-pub progress-none : {xs ys zs r out : List ℕ} {line : List ℕ} → Ready xs ys zs r out → length r ≡ 3 → length line ≡ 512 → Progress xs ys zs out (getD r 0 0) (getD r 1 0) (getD r 2 0) 0 0 0 line out
-progress-none {xs} {ys} {zs} {r} {out} h e f =
+pub progress-none : {ps : List (List ℕ)} {r line out : List ℕ} → Ready ps r line out → length r ≡ 3 → Progress ps line out (getD r 0 0) (getD r 1 0) (getD r 2 0) 0 0 0 line out
+progress-none {ps} {r} {line} {out} h e =
     record {
       ready = rw (three r e) h;
       within = omega arith;
-      long = f;
+      long = refl;
       alike = refl;
       counted = sym (total-none (getD r 2 0 ∷ getD r 0 0 ∷ getD r 1 0 ∷ []));
       each = λ j l. absurd (let no′ : ⊥ = omega arith in no′);
@@ -51,25 +52,29 @@ progress-none {xs} {ys} {zs} {r} {out} h e f =
     }
 
 -- The next point, at i.
-module _ {xs ys zs out : List ℕ} {rx ry rz i held volume : ℕ} {line left : List ℕ} (h : Progress xs ys zs out rx ry rz i held volume line left) (l : i < length xs) where
-  ready : Ready xs ys zs (rx ∷ ry ∷ rz ∷ []) out
+module _ {ps : List (List ℕ)} {line₀ out : List ℕ} {rx ry rz i held volume : ℕ} {line left : List ℕ} (h : Progress ps line₀ out rx ry rz i held volume line left) (l : i < length ps) {p : List ℕ} (here : p ≡ getD ps i []) where
+  ready : Ready ps (rx ∷ ry ∷ rz ∷ []) line₀ out
   ready = h .ready
 
   all : List (List ℕ)
-  all = zip-points zs xs ys
+  all = map turn ps
 
   passed : List (List ℕ)
-  passed = take i (zip-points zs xs ys)
+  passed = take i (map turn ps)
 
-  all-at : (j : ℕ) → j < length xs → getD all j [] ≡ getD zs j 0 ∷ getD xs j 0 ∷ getD ys j 0 ∷ []
+  all-at : (j : ℕ) → j < length ps → getD all j [] ≡ turn (getD ps j [])
   unfolding all
-  all-at j m = points-at zs xs ys j (omega (arith, ready)) (omega (arith, ready)) (omega (arith, ready))
+  all-at j m = getD-mapped turn [] [] ps j m
 
-  all-many : length all ≡ length xs
+  z-first : (j : ℕ) → j < length ps → turn (getD ps j []) ≡ getD (getD ps j []) 2 0 ∷ getD (getD ps j []) 0 0 ∷ getD (getD ps j []) 1 0 ∷ []
+  z-first j m = turn-three (getD ps j []) (ready .sorted .axes j m)
+
+  pub progress-small : Small p
+  progress-small a = rw here (ready .sorted .small i a)
+
+  all-many : length all ≡ length ps
   unfolding all
-  all-many =
-      points-length zs xs ys (let a : length xs ≡ length zs = omega (arith, ready) in a) (let a : length ys ≡ length zs = omega (arith, ready) in a)
-      ∙ ready .zs-many
+  all-many = length-map ps turn
 
   passed-many : length passed ≡ i
   unfolding passed all
@@ -79,30 +84,30 @@ module _ {xs ys zs out : List ℕ} {rx ry rz i held volume : ℕ} {line left : L
   unfolding passed all
   passed-at j m = getD-take i all j [] m
 
-  next : take (i + 1) (zip-points zs xs ys) ≡ passed ++ ((getD zs i 0 ∷ getD xs i 0 ∷ getD ys i 0 ∷ []) ∷ [])
+  next : take (i + 1) (map turn ps) ≡ passed ++ ((getD p 2 0 ∷ getD p 0 0 ∷ getD p 1 0 ∷ []) ∷ [])
   unfolding passed all
-  next = rw (add-one i, take-suc all i [] (omega (arith, all-many)), all-at i l)
+  next = rw (add-one i, take-suc all i [] (omega (arith, all-many)), all-at i l, z-first i l, here)
 
-  under : FirstAtMost (getD zs i 0) passed
+  under : FirstAtMost (getD p 2 0) passed
   unfolding first
   under =
-      at-first (getD zs i 0) passed
+      at-first (getD p 2 0) passed
       (λ j m.
       let before : j < i = omega (arith, passed-many) in
-      rw (passed-at j before, all-at j (omega arith))
-      (ascending-at zs (ready .rising) j i (omega arith) (omega (arith, ready))))
+      let inside : j < length ps = omega arith in
+      rw (passed-at j before, all-at j inside, z-first j inside, here) (ascending-at (ready .sorted) j i (omega arith) l))
 
-  shared-at : (j : ℕ) → j < i → getD left j 0 ≡ contribution (rz ∷ rx ∷ ry ∷ []) (take (i + 1) (zip-points zs xs ys)) (getD all j []) + (rz - getD zs i 0) * shared-with (rx ∷ ry ∷ []) (take held line) (getD xs i 0 ∷ getD ys i 0 ∷ []) j
+  shared-at : (j : ℕ) → j < i → getD left j 0 ≡ contribution (rz ∷ rx ∷ ry ∷ []) (take (i + 1) (map turn ps)) (getD all j []) + (rz - getD p 2 0) * shared-with (rx ∷ ry ∷ []) (take held line) (getD p 0 0 ∷ getD p 1 0 ∷ []) j
   unfolding all passed
   shared-at j m =
       h .each j m
       ∙ rw (next, ← (passed-at j m))
-      (next-other (h .lined) rz rx (getD zs i 0) (getD xs i 0) (getD ys i 0) under j (omega (arith, passed-many)))
+      (next-other (h .lined) rz rx (getD p 2 0) (getD p 0 0) (getD p 1 0) under j (omega (arith, passed-many)))
 
-  shared-none : (j : ℕ) → i ≤ j → shared-with (rx ∷ ry ∷ []) (take held line) (getD xs i 0 ∷ getD ys i 0 ∷ []) j ≡ 0
+  shared-none : (j : ℕ) → i ≤ j → shared-with (rx ∷ ry ∷ []) (take held line) (getD p 0 0 ∷ getD p 1 0 ∷ []) j ≡ 0
   unfolding passed
   shared-none j m =
-      shared-with-none (length passed) j (rx ∷ ry ∷ []) (take held line) (getD xs i 0 ∷ getD ys i 0 ∷ []) (h .lined .below) (omega (arith, passed-many))
+      shared-with-none (length passed) j (rx ∷ ry ∷ []) (take held line) (getD p 0 0 ∷ getD p 1 0 ∷ []) (h .lined .below) (omega (arith, passed-many))
 
   line-indices : (k : ℕ) → index-of (getD (take held line) k 0) < length left
   unfolding passed
@@ -113,15 +118,15 @@ module _ {xs ys zs out : List ℕ} {rx ry rz i held volume : ℕ} {line left : L
       k
 
   pub progress-index : i < 512
-  progress-index = omega (arith, ready .few)
+  progress-index = omega (arith, ready .sorted .few)
 
   pub progress-rising : Rising 0 (take held line)
   progress-rising = h .lined .valid .rising
 
   -- where the next point belongs, and the column there
-  module _ {at : ℕ} (ranked : Ranked (take held line) (getD xs i 0) at) where
+  module _ {at : ℕ} (ranked : Ranked (take held line) (getD p 0 0) at) where
     held-long : length (take held line) ≡ held
-    held-long = length-take-le held line (omega (arith, h .long, h .few, ready .few))
+    held-long = length-take-le held line (omega (arith, h .long, h .few, ready .line-room))
 
     at-held : at ≤ held
     at-held = omega (arith, ranked .within, held-long)
@@ -130,30 +135,30 @@ module _ {xs ys zs out : List ℕ} {rx ry rz i held volume : ℕ} {line left : L
     part = take-take at held line at-held
 
     pub progress-at : at ≤ length line
-    progress-at = omega (arith, at-held, h .few, h .long, ready .few)
+    progress-at = omega (arith, at-held, h .few, h .long, ready .sorted .few)
 
     pub progress-flags : Flagged [] (take at line)
     progress-flags =
         rw part at
         (flagged-front [] (take at (take held line)) (drop at (take held line)) (rw (take-append-drop at (take held line)) (h .lined .valid .flags)))
 
-    pub progress-entering : {next : ℕ} → next ≡ entry-of (getD xs i 0) (getD ys i 0) i → Entering line held at next
+    pub progress-entering : {next : ℕ} → next ≡ entry-of (getD p 0 0) (getD p 1 0) i → Entering line held at next
     progress-entering {next} e =
         record {
-          room = omega (arith, h .long, h .few, ready .few);
+          room = omega (arith, h .long, h .few, ready .line-room);
           valid = h .lined .valid;
           ranked = rw (e, first-of) ranked;
           clear = rw e clear-of;
         }
       where
-        first-of : x-of (entry-of (getD xs i 0) (getD ys i 0) i) ≡ getD xs i 0
-        first-of = omega (arith, ready .ys-small i, ready .few)
+        first-of : x-of (entry-of (getD p 0 0) (getD p 1 0) i) ≡ getD p 0 0
+        first-of = omega (arith, progress-small 1, ready .sorted .few)
 
-        clear-of : flag-of (entry-of (getD xs i 0) (getD ys i 0) i) ≡ 0
+        clear-of : flag-of (entry-of (getD p 0 0) (getD p 1 0) i) ≡ 0
         clear-of = omega arith
 
-  module _ {height : ℕ} (e : height ≡ rz - getD zs i 0) where
-    pub progress-crossing : {at : ℕ} {column : Column} → Ranked (take held line) (getD xs i 0) at → Seen ry (take at line) column → Crossing (take held line) at column (getD xs i 0) (getD ys i 0) rx ry height left
+  module _ {height : ℕ} (e : height ≡ rz - getD p 2 0) where
+    pub progress-crossing : {at : ℕ} {column : Column} → Ranked (take held line) (getD p 0 0) at → Seen ry (take at line) column → Crossing (take held line) at column (getD p 0 0) (getD p 1 0) rx ry height left
     progress-crossing {at} {column} ranked seen =
         record {
           rising = progress-rising;
@@ -174,22 +179,22 @@ module _ {xs ys zs out : List ℕ} {rx ry rz i held volume : ℕ} {line left : L
             rw (List·getD-eq-default (take at line) 0 {n = k} (omega (arith, length-take at line)))
             (omega (arith, ready, h .alike))
 
-        enough : (j : ℕ) → Dec (j < i) → height * shared-with (rx ∷ ry ∷ []) (take held line) (getD xs i 0 ∷ getD ys i 0 ∷ []) j ≤ getD left j 0
+        enough : (j : ℕ) → Dec (j < i) → height * shared-with (rx ∷ ry ∷ []) (take held line) (getD p 0 0 ∷ getD p 1 0 ∷ []) j ≤ getD left j 0
         enough j (yes a) = rw e (omega (arith, shared-at j a))
         enough j (no a) = rw (shared-none j (omega arith), mul-zero height) (omega arith)
 
-    module _ {left′ : List ℕ} {area : ℕ} (c : Crossed (take held line) (getD xs i 0) (getD ys i 0) rx ry height left left′ area) where
-      new-total : total (rz ∷ rx ∷ ry ∷ []) (take (i + 1) (zip-points zs xs ys)) ≡ volume + height * area
+    module _ {left′ : List ℕ} {area : ℕ} (c : Crossed (take held line) (getD p 0 0) (getD p 1 0) rx ry height left left′ area) where
+      new-total : total (rz ∷ rx ∷ ry ∷ []) (take (i + 1) (map turn ps)) ≡ volume + height * area
       unfolding passed
       new-total =
           rw (next, e, h .counted, c .gained)
-          (next-total (h .lined) rz rx (getD zs i 0) (getD xs i 0) (getD ys i 0) under)
+          (next-total (h .lined) rz rx (getD p 2 0) (getD p 0 0) (getD p 1 0) under)
 
       pub progress-fits : volume + height * area < 2 ^ 64
       unfolding box
       progress-fits =
-          let most : total (rz ∷ rx ∷ ry ∷ []) (take (i + 1) (zip-points zs xs ys)) ≤ rz * (rx * (ry * 1)) =
-          total-le-box (rz ∷ rx ∷ ry ∷ []) (take (i + 1) (zip-points zs xs ys)) in
+          let most : total (rz ∷ rx ∷ ry ∷ []) (take (i + 1) (map turn ps)) ≤ rz * (rx * (ry * 1)) =
+          total-le-box (rz ∷ rx ∷ ry ∷ []) (take (i + 1) (map turn ps)) in
           let small : rz * (rx * (ry * 1)) ≤ 1152921504606846976 =
           rw (mul-one ry) (three-fit (ready .reference-small 2) (ready .reference-small 0) (ready .reference-small 1)) in
           omega (arith, new-total)
@@ -197,28 +202,28 @@ module _ {xs ys zs out : List ℕ} {rx ry rz i held volume : ℕ} {line left : L
       pub progress-own : height * area < 2 ^ 64
       progress-own = omega (arith, progress-fits)
 
-      new-each : (own : ℕ) → own ≡ height * area → length left′ ≡ length left → (j : ℕ) → j < i + 1 → Dec (j < i) → getD (set left′ i own) j 0 ≡ contribution (rz ∷ rx ∷ ry ∷ []) (take (i + 1) (zip-points zs xs ys)) (getD (zip-points zs xs ys) j [])
+      new-each : (own : ℕ) → own ≡ height * area → length left′ ≡ length left → (j : ℕ) → j < i + 1 → Dec (j < i) → getD (set left′ i own) j 0 ≡ contribution (rz ∷ rx ∷ ry ∷ []) (take (i + 1) (map turn ps)) (getD (map turn ps) j [])
       unfolding all passed
       new-each own f g j m (yes a) =
-          let fall : getD left′ j 0 + height * shared-with (rx ∷ ry ∷ []) (take held line) (getD xs i 0 ∷ getD ys i 0 ∷ []) j ≡ getD left j 0 = c .fallen j in
-          let due : getD left j 0 ≡ contribution (rz ∷ rx ∷ ry ∷ []) (take (i + 1) (zip-points zs xs ys)) (getD all j []) + height * shared-with (rx ∷ ry ∷ []) (take held line) (getD xs i 0 ∷ getD ys i 0 ∷ []) j =
+          let fall : getD left′ j 0 + height * shared-with (rx ∷ ry ∷ []) (take held line) (getD p 0 0 ∷ getD p 1 0 ∷ []) j ≡ getD left j 0 = c .fallen j in
+          let due : getD left j 0 ≡ contribution (rz ∷ rx ∷ ry ∷ []) (take (i + 1) (map turn ps)) (getD all j []) + height * shared-with (rx ∷ ry ∷ []) (take held line) (getD p 0 0 ∷ getD p 1 0 ∷ []) j =
           rw e (shared-at j a) in
           getD-set-other left′ i j own 0 (λ q. omega arith) ∙ omega arith
       new-each own f g j m (no a) =
           let last : j ≡ i = omega arith in
-          rw (last, getD-set-same left′ i own 0 (omega (arith, g, h .alike, ready .room)), f, all-at i l, next, e, c .gained)
-          (sym (next-own (h .lined) rz rx (getD zs i 0) (getD xs i 0) (getD ys i 0) under))
+          rw (last, getD-set-same left′ i own 0 (omega (arith, g, h .alike, ready .room)), f, all-at i l, z-first i l, ← here, next, e, c .gained)
+          (sym (next-own (h .lined) rz rx (getD p 2 0) (getD p 0 0) (getD p 1 0) under))
 
       new-behind : (own : ℕ) → (j : ℕ) → i + 1 ≤ j → getD (set left′ i own) j 0 ≡ getD out j 0
       new-behind own j m =
-          let none : height * shared-with (rx ∷ ry ∷ []) (take held line) (getD xs i 0 ∷ getD ys i 0 ∷ []) j ≡ 0 =
+          let none : height * shared-with (rx ∷ ry ∷ []) (take held line) (getD p 0 0 ∷ getD p 1 0 ∷ []) j ≡ 0 =
           rw (shared-none j (omega arith)) (mul-zero height) in
           getD-set-other left′ i j own 0 (λ q. omega arith)
           ∙ omega (arith, c .fallen j, h .behind j (let n : i ≤ j = omega arith in n))
 
-      pub progress-more : {own entry end : ℕ} {line′ : List ℕ} → own ≡ height * area → length left′ ≡ length left → entry ≡ entry-of (getD xs i 0) (getD ys i 0) i → Entered ry line held entry line′ end → length line′ ≡ length line → Progress xs ys zs out rx ry rz (i + 1) end (volume + own) line′ (set left′ i own)
+      pub progress-more : {own entry end : ℕ} {line′ : List ℕ} → own ≡ height * area → length left′ ≡ length left → entry ≡ entry-of (getD p 0 0) (getD p 1 0) i → Entered ry line held entry line′ end → length line′ ≡ length line → Progress ps line₀ out rx ry rz (i + 1) end (volume + own) line′ (set left′ i own)
       unfolding passed
-      progress-more {own} {entry} {end} {line′} f g k p q =
+      progress-more {own} {entry} {end} {line′} f g k t q =
           record {
             ready = ready;
             within = omega arith;
@@ -227,48 +232,43 @@ module _ {xs ys zs out : List ℕ} {rx ry rz i held volume : ℕ} {line left : L
             counted = rw f (sym new-total);
             each = λ j m. new-each own f g j m (decLe (suc j) i);
             behind = new-behind own;
-            few = omega (arith, p .within, h .few);
+            few = omega (arith, t .within, h .few);
             lined =
                 rw next
-                (line-for-more (h .lined) (getD zs i 0) (getD xs i 0) (getD ys i 0) (ready .ys-small i)
-                (omega (arith, passed-many, ready .few))
-                (p .valid)
-                (rw (passed-many, ← k) (p .alike))
-                (p .below (suc (length passed)) (below-lift (length passed) (suc (length passed)) (take held line) (omega arith) (h .lined .below))
+                (line-for-more (h .lined) (getD p 2 0) (getD p 0 0) (getD p 1 0) (progress-small 1)
+                (omega (arith, passed-many, ready .sorted .few))
+                (t .valid)
+                (rw (passed-many, ← k) (t .alike))
+                (t .below (suc (length passed)) (below-lift (length passed) (suc (length passed)) (take held line) (omega arith) (h .lined .below))
                 (rw (k, index-is) (omega (arith, passed-many)))));
           }
         where
-          index-is : index-of (entry-of (getD xs i 0) (getD ys i 0) i) ≡ i
-          index-is = omega (arith, ready .few)
+          index-is : index-of (entry-of (getD p 0 0) (getD p 1 0) i) ≡ i
+          index-is = omega (arith, ready .sorted .few)
 
 -- After the last point.
-module _ {xs ys zs out : List ℕ} {rx ry rz i held volume : ℕ} {line left : List ℕ} (h : Progress xs ys zs out rx ry rz i held volume line left) (l : length xs ≤ i) where
-  whole : take i (zip-points zs xs ys) ≡ zip-points zs xs ys
-  whole =
-      take-all i (zip-points zs xs ys)
-      (omega (arith, points-length zs xs ys (let a : length xs ≡ length zs = omega arith in a) (let a : length ys ≡ length zs = omega arith in a)))
+module _ {ps : List (List ℕ)} {line₀ out : List ℕ} {rx ry rz i held volume : ℕ} {line left : List ℕ} (h : Progress ps line₀ out rx ry rz i held volume line left) (l : length ps ≤ i) where
+  whole : take i (map turn ps) ≡ map turn ps
+  whole = take-all i (map turn ps) (omega (arith, length-map ps turn))
 
-  progress-total : volume ≡ total (rx ∷ ry ∷ rz ∷ []) (zip-points xs ys zs)
-  progress-total = h .counted ∙ rw whole (total-turned rx ry rz xs ys zs)
+  progress-total : volume ≡ total (rx ∷ ry ∷ rz ∷ []) ps
+  progress-total = h .counted ∙ rw whole (total-turned rx ry rz ps)
 
   counts : List ℕ
-  counts = contributions (rx ∷ ry ∷ rz ∷ []) (zip-points xs ys zs)
+  counts = contributions (rx ∷ ry ∷ rz ∷ []) ps
 
-  many : length (zip-points xs ys zs) ≡ length xs
-  many = points-length xs ys zs (h .ready .ys-many) (h .ready .zs-many)
-
-  counts-many : length counts ≡ length xs
+  counts-many : length counts ≡ length ps
   unfolding counts contributions
-  counts-many = length-map (zip-points xs ys zs) (λ t. contribution (rx ∷ ry ∷ rz ∷ []) (zip-points xs ys zs) t) ∙ many
+  counts-many = length-map ps (λ t. contribution (rx ∷ ry ∷ rz ∷ []) ps t)
 
-  counts-at : (j : ℕ) → j < length xs → getD counts j 0 ≡ getD left j 0
+  counts-at : (j : ℕ) → j < length ps → getD counts j 0 ≡ getD left j 0
   unfolding counts contributions
   counts-at j m =
-      getD-mapped (λ t. contribution (rx ∷ ry ∷ rz ∷ []) (zip-points xs ys zs) t) [] 0 (zip-points xs ys zs) j (omega (arith, many))
-      ∙ rw (points-at xs ys zs j (h .ready .ys-many) (h .ready .zs-many) m, h .each j (omega arith), whole, points-at zs xs ys j (omega arith) (omega arith) (omega arith))
-      (sym (contribution-turned rx ry rz xs ys zs (getD xs j 0) (getD ys j 0) (getD zs j 0)))
+      getD-mapped (λ t. contribution (rx ∷ ry ∷ rz ∷ []) ps t) [] 0 ps j m
+      ∙ rw (h .each j (omega arith), whole, getD-mapped turn [] [] ps j m)
+      (sym (contribution-turned rx ry rz ps (getD ps j [])))
 
-  progress-contributions : left ≡ contributions (rx ∷ ry ∷ rz ∷ []) (zip-points xs ys zs) ++ drop (length xs) out
+  progress-contributions : left ≡ contributions (rx ∷ ry ∷ rz ∷ []) ps ++ drop (length ps) out
   unfolding counts
   progress-contributions =
       rw (← counts-many)
@@ -277,5 +277,5 @@ module _ {xs ys zs out : List ℕ} {rx ry rz i held volume : ℕ} {line left : L
       (λ j m. sym (counts-at j (omega (arith, counts-many))))
       (λ j m. h .behind j (omega (arith, counts-many, h .within))))
 
-pub progress-end : {xs ys zs out : List ℕ} {i held volume : ℕ} {line left : List ℕ} (r : List ℕ) → length r ≡ 3 → Progress xs ys zs out (getD r 0 0) (getD r 1 0) (getD r 2 0) i held volume line left → length xs ≤ i → (volume ≡ total r (zip-points xs ys zs)) × (left ≡ contributions r (zip-points xs ys zs) ++ drop (length xs) out)
+pub progress-end : {ps : List (List ℕ)} {line₀ out : List ℕ} {i held volume : ℕ} {line left : List ℕ} (r : List ℕ) → length r ≡ 3 → Progress ps line₀ out (getD r 0 0) (getD r 1 0) (getD r 2 0) i held volume line left → length ps ≤ i → (volume ≡ total r ps) × (left ≡ contributions r ps ++ drop (length ps) out)
 progress-end r e h l = (rw (three r e) at (progress-total h l), rw (three r e) at (progress-contributions h l))

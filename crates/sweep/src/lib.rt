@@ -5,33 +5,34 @@ ghost use mathlib.Core.Path.{_≡_};
 ghost use mathlib.Core.List.{_++_};
 ghost use lib.ListN.{length, drop};
 ghost use Rattle.hypervolume.specs.Counts.{total, contributions};
-ghost use Rattle.sweep.specs.Points.{zip-points, Ready};
+ghost use Rattle.sweep.specs.Points.{Ready};
 
 // The total of the points, and in `out` the contribution of each. After i points, `volume` and `out` are those of these
 // points alone. No earlier point has a larger z, so in each layer that the next point reaches it meets the same
-// picture, seen along z: one area to add and one area to take from each earlier point, `height` cells deep.
-pub fn sweep(xs: &[u64], ys: &[u64], zs: &[u64], reference: Point, out: &mut [u64]) -> u64
-    requires { ⌜ Ready (now xs) (now ys) (now zs) (reference .at) (now out) ⌝ }
-    ensures total { λ r. ⌜ r ≡ total (reference .at) (zip-points (now (xs .entry)) (now (ys .entry)) (now (zs .entry))) ⌝ }
-    ensures contributions { λ r. ⌜ now (out .exit) ≡ contributions (reference .at) (zip-points (now (xs .entry)) (now (ys .entry)) (now (zs .entry))) ++ drop (length (now (xs .entry))) (now (out .entry)) ⌝ }
+// picture, seen along z: one area to add and one area to take from each earlier point, `height` cells deep. The words of
+// `line` are the caller's, so that whoever sweeps often clears none of them.
+pub fn sweep(points: &[[u32; 3]], reference: Point, line: &mut [u64], out: &mut [u64]) -> u64
+    requires { ⌜ Ready (now points) (reference .at) (now line) (now out) ⌝ }
+    ensures total { λ r. ⌜ r ≡ total (reference .at) (now (points .entry)) ⌝ }
+    ensures contributions { λ r. ⌜ now (out .exit) ≡ contributions (reference .at) (now (points .entry)) ++ drop (length (now (points .entry))) (now (out .entry)) ⌝ }
 {
     let rx = reference.at[0] as u64;
     let ry = reference.at[1] as u64;
     let rz = reference.at[2];
-    let mut line = [0u64; 512];
     let mut m: usize = 0;
     let mut volume: u64 = 0;
     let mut i: usize = 0;
-    while i < xs.len() {
-        let x = xs[i];
-        let y = ys[i];
-        let height = hypervolume::edge(rz, zs[i] as u32);
+    while i < points.len() {
+        let p = hypervolume::point_at(points, i);
+        let x = p.at[0] as u64;
+        let y = p.at[1] as u64;
+        let height = hypervolume::edge(rz, p.at[2]);
         let at = line::rank(&line[..m], x);
         let column = strips::look_back(&line[..at], ry);
         let own = height * strips::strips(&line[..m], at, column, x, y, rx, ry, height, out);
         out[i] = own;
         volume = volume + own;
-        m = line::enter(&mut line, m, at, column, line::entry(x, y, i));
+        m = line::enter(line, m, at, column, line::entry(x, y, i));
         i = i + 1;
     }
     volume

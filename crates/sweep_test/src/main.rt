@@ -6,61 +6,65 @@ use testing::noise;
 ghost use mathlib.Core.Path.{_≡_};
 ghost use Prim.Native.Nat.{_≤_, _<_};
 ghost use lib.ListN.{length};
-ghost use Rattle.sweep.specs.Points.{Small, Ascending, Ready};
+ghost use Rattle.hypervolume.specs.Sorted.{Small, Sorted};
 
-// Coordinates below `limit`, so that many are equal where it is small.
-fn fill(set: u64, kind: u64, limit: u64, dst: &mut [u64])
-    requires { ⌜ (0 < limit) × Small (now dst) ⌝ }
-    ensures { λ _. ⌜ Small (now (dst .exit)) ⌝ }
-{
-    let mut i: usize = 0;
-    while i < dst.len() {
-        dst[i] = noise(set, kind, i as u64) % limit;
-        i = i + 1;
-    }
-}
-
-// Ascending coordinates, with equal neighbours.
-fn rise(set: u64, dst: &mut [u64])
-    requires { ⌜ length (now dst) ≤ 12 ⌝ }
-    ensures { λ _. ⌜ Small (now (dst .exit)) × Ascending (now (dst .exit)) ⌝ }
+// Points with x and y below `limit`, so that many are equal where it is small, and with equal neighbours on z.
+fn fill(set: u64, limit: u64, points: &mut [[u32; 3]])
+    requires { ⌜ (0 < limit) × (length (now points) ≤ 12) ⌝ }
+    ensures { λ _. ⌜ Sorted (now (points .exit)) ⌝ }
 {
     let mut z: u64 = 0;
     let mut i: usize = 0;
-    while i < dst.len() {
+    while i < points.len() {
+        let x = noise(set, 0, i as u64) % limit;
+        let y = noise(set, 1, i as u64) % limit;
         z = z + noise(set, 2, i as u64) % 2;
-        dst[i] = z;
+        hypervolume::put_point(points, i, Point::new(x, y, z));
         i = i + 1;
     }
 }
 
 // A point with each coordinate from `least` to `least` + 7.
-fn point(set: u64, kind: u64, least: u32) -> Point
+fn point(set: u64, kind: u64, least: u64) -> Point
     requires { ⌜ least ≤ 1 ⌝ }
     ensures { λ r. ⌜ Small (r .at) ⌝ }
 {
-    let x = (noise(set, kind, 12) % 8) as u32;
-    let y = (noise(set, kind, 13) % 8) as u32;
-    let z = (noise(set, kind, 14) % 8) as u32;
-    Point {
-        at: [least + x, least + y, least + z],
+    let x = noise(set, kind, 12) % 8;
+    let y = noise(set, kind, 13) % 8;
+    let z = noise(set, kind, 14) % 8;
+    Point::new(least + x, least + y, least + z)
+}
+
+// A coordinate, three to a point; beyond the box behind the end.
+fn coordinate(points: &[[u32; 3]], i: usize) -> u32 {
+    if i / 3 < points.len() {
+        hypervolume::point_at(points, i / 3).at[i % 3]
+    } else {
+        8
     }
 }
 
-// A coordinate; beyond the box behind the end.
-fn coordinate(xs: &[u64], t: usize) -> u32 {
-    if t < xs.len() { (xs[t] % 16) as u32 } else { 8 }
-}
-
-// The points, three coordinates each; those behind the end dominate no cell.
-fn points(xs: &[u64], ys: &[u64], zs: &[u64]) -> [u32; 36]
+// The coordinates, as the direct count takes them; the points behind the end dominate no cell.
+fn coordinates(points: &[[u32; 3]]) -> [u32; 36]
     ensures { λ r. ⌜ 36 ≡ length r ⌝ }
 {
     let mut all = [8u32; 36];
-    for t in 0..12usize {
-        all[3 * t] = coordinate(xs, t);
-        all[3 * t + 1] = coordinate(ys, t);
-        all[3 * t + 2] = coordinate(zs, t);
+    for i in 0..36usize {
+        all[i] = coordinate(points, i);
+    }
+    all
+}
+
+// The counts at their places, and 0 at all others.
+fn spread(places: &[u16], counts: &[u64]) -> [u64; 12]
+    ensures { λ r. ⌜ 12 ≡ length r ⌝ }
+{
+    let mut all = [0u64; 12];
+    let mut k: usize = 0;
+    while k < places.len() {
+        let place = places[k] as usize;
+        testing::put(&mut all, place, testing::at(counts, k));
+        k = k + 1;
     }
     all
 }
@@ -78,41 +82,50 @@ fn right(points: &[u32], reference: Point, u: Point, out: &[u64], n: usize) -> b
     true
 }
 
-// Whether the sweep and the update by u agree with the direct count.
-fn agree(xs: &[u64], ys: &[u64], zs: &[u64], reference: Point, u: Point, out: &mut [u64]) -> bool
-    requires { ⌜ Ready (now xs) (now ys) (now zs) (reference .at) (now out) × Small (u .at) ⌝ }
+// Whether the sweep agrees with the direct count.
+fn sweep_agrees(points: &[[u32; 3]], all: &[u32], reference: Point) -> bool
+    requires { ⌜ Sorted (now points) × (length (now points) ≤ 12) × Small (reference .at) ⌝ }
 {
     let origin = Point { at: [0, 0, 0] };
-    let all = points(xs, ys, zs);
-    let n = xs.len();
-    let total = sweep::sweep(xs, ys, zs, reference, out);
-    let swept = right(&all, reference, origin, out, n);
-    let gain = corners::update(xs, ys, zs, u, reference, out);
-    let updated = right(&all, reference, u, out, n);
-    let total_due = testing::cells(&all, reference, origin, 1, 12);
-    let gain_due = testing::cells(&all, reference, u, 0, 0);
-    swept && updated && total == total_due && gain == gain_due
+    let mut line = [0u64; 12];
+    let mut counts = [0u64; 12];
+    let total = sweep::sweep(points, reference, &mut line, &mut counts);
+    total == testing::cells(all, reference, origin, 1, 12)
+        && right(all, reference, origin, &counts, points.len())
+}
+
+// Whether the update by u does. What it is lent holds something already.
+fn update_agrees(points: &[[u32; 3]], all: &[u32], reference: Point, u: Point) -> bool
+    requires { ⌜ Sorted (now points) × (length (now points) ≤ 12) × Small (reference .at) × Small (u .at) ⌝ }
+{
+    let mut corners = [[1u32; 3]; 12];
+    let mut places = [11u16; 12];
+    let mut line = [1u64; 12];
+    let mut counts = [1u64; 12];
+    let found = corners::update(
+        points,
+        u,
+        reference,
+        &mut corners,
+        &mut places,
+        &mut line,
+        &mut counts,
+    );
+    let joints = spread(&places[..found.moved], &counts);
+    found.gain == testing::cells(all, reference, u, 0, 0)
+        && right(all, reference, u, &joints, points.len())
 }
 
 // The set of this number: up to 12 points, with coordinates below 1 to 10.
 fn agrees(set: u64) -> bool {
     let n = (set % 13) as usize;
     let limit = 1 + set / 13 % 10;
-    let mut xs = [0u64; 12];
-    let mut ys = [0u64; 12];
-    let mut zs = [0u64; 12];
-    let mut out = [0u64; 12];
-    fill(set, 0, limit, &mut xs);
-    fill(set, 1, limit, &mut ys);
-    rise(set, &mut zs);
-    agree(
-        &xs[..n],
-        &ys[..n],
-        &zs[..n],
-        point(set, 3, 1),
-        point(set, 1, 0),
-        &mut out,
-    )
+    let mut points = [[0u32; 3]; 12];
+    fill(set, limit, &mut points);
+    let all = coordinates(&points[..n]);
+    let reference = point(set, 3, 1);
+    sweep_agrees(&points[..n], &all, reference)
+        && update_agrees(&points[..n], &all, reference, point(set, 1, 0))
 }
 
 fn main() {

@@ -28,10 +28,9 @@ use Rattle.calls.proofs.Counted.{audited-counted}
 use Rattle.calls.proofs.Sound.{insert-passed, remove-passed, inserted-sound, removed-sound}
 use Rattle.calls.proofs.Drops.{drops-down}
 use Rattle.card.specs.Card
-use Rattle.card.specs.Card.{shape-on, lines, refused, accepted}
-use Rattle.card.specs.Verdict.{Verdict, refusal, archive, shape-rows, judge, carried-out}
-use Rattle.card.proofs.Judging.{loads}
-use Rattle.card.proofs.Theorems.{same-answer}
+use Rattle.card.specs.Card.{shape-on, lines}
+use Rattle.card.specs.Verdict.{judge, answer-of}
+use Rattle.card.proofs.Theorems.{load-answer, load-stays}
 use Rattle.history.proofs.Steps.{Deed, insert-deed, remove-deed, reduce-deed}
 use Rattle.history.proofs.Histories.{holds-front, holds-behind}
 use Rattle.reports.specs.Report
@@ -153,24 +152,24 @@ empty-fits : (s : Shape) → length (layout (empty s)) ≡ extent (s .capacity)
 unfolding empty
 empty-fits s = length-layout (empty s) (omega arith)
 
-start-rows-long : (w : List ℕ) (s : Shape) → extent (s .capacity) ≤ length w → start-rows w s ≡ guard (not (shape-allowed s)) 4 0
+start-rows-long : (long : ℕ) (s : Shape) → extent (s .capacity) ≤ long → start-rows long s ≡ guard (not (shape-allowed s)) 4 0
 unfolding start-rows guard
-start-rows-long w s l = rw (le-ltb (length w) (extent (s .capacity)) l)
+start-rows-long long s l = rw (le-ltb long (extent (s .capacity)) l)
 
 start-alike : (s : Shape) (v w : List ℕ) → Alike (extent (s .capacity)) v w → LeftAlike (extent (s .capacity)) (Lent.start v s) (Lent.start w s)
 unfolding Lent.start
 start-alike s v w h =
-    rw (start-rows-long v s (h .long), start-rows-long w s (h .long-too))
+    rw (start-rows-long (length v) s (h .long), start-rows-long (length w) s (h .long-too))
     (leaves-alike v w [] _ 0 (layout (empty s)) _ _ [] (extent (s .capacity)) (h .same) (λ z. empty-fits s))
 
 start-behind : (s : Shape) (w : List ℕ) → drop (extent (s .capacity)) (Lent.start w s .words) ≡ drop (extent (s .capacity)) w
 unfolding Lent.start
-start-behind s w = leaves-behind w [] (start-rows w s) 0 (layout (empty s)) [] (extent (s .capacity)) (λ z. empty-fits s)
+start-behind s w = leaves-behind w [] (start-rows (length w) s) 0 (layout (empty s)) [] (extent (s .capacity)) (λ z. empty-fits s)
 
 -- Loading: of the slice only the length is judged, on line 1; a card that is accepted leaves the book's fresh archive.
 judge-alike : (m n : ℕ) (ls : List (Option Numbers)) (e : ℕ)
     → e ≡ extent (shape-on (getD (map numbers-on ls) 0 no-numbers) .capacity) → e ≤ m → e ≤ n → judge m ls ≡ judge n ls
-unfolding judge shape-rows numbers-on guard
+unfolding judge start-rows numbers-on guard
 judge-alike m n [] e q l h = refl
 judge-alike m n (none ∷ ls) e q l h = refl
 judge-alike m n (some v ∷ ls) e q l h =
@@ -179,20 +178,12 @@ judge-alike m n (some v ∷ ls) e q l h =
 load-answers : (v w card : List ℕ) → Alike (extent (card-shape card .capacity)) v w → Card.load v card .answer ≡ Card.load w card .answer
 unfolding card-shape
 load-answers v w card h =
-    ap (λ k. k .answer) (loads v card)
-    ∙ same-answer v w (judge (length v) (lines card))
-    ∙ ap (λ j. carried-out w j .answer) (judge-alike (length v) (length w) (lines card) _ refl (h .long) (h .long-too))
-    ∙ sym (ap (λ k. k .answer) (loads w card))
-
-verdict-refused : (w : List ℕ) (v : Verdict) (n : ℕ) → carried-out w v .answer .refusal ≡ suc n → carried-out w v .words ≡ w
-unfolding carried-out refused accepted
-verdict-refused w (refusal number line) n e = refl
-verdict-refused w (archive a) n e = absurd (let no : ⊥ = omega arith in no)
+    load-answer v card
+    ∙ ap answer-of (judge-alike (length v) (length w) (lines card) _ refl (h .long) (h .long-too))
+    ∙ sym (load-answer w card)
 
 load-refused : (w card : List ℕ) (n : ℕ) → Card.load w card .answer .refusal ≡ suc n → Card.load w card .words ≡ w
-load-refused w card n e =
-    ap (λ k. k .words) (loads w card)
-    ∙ verdict-refused w (judge (length w) (lines card)) n (ap (λ k. k .answer .refusal) (sym (loads w card)) ∙ e)
+load-refused w card n e = load-stays w card (λ z. let no : ⊥ = omega arith in no)
 
 load-words : (v w card : List ℕ) → Alike (extent (card-shape card .capacity)) v w
     → take (extent (card-shape card .capacity)) (Card.load v card .words) ≡ take (extent (card-shape card .capacity)) (Card.load w card .words)

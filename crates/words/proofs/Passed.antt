@@ -62,8 +62,12 @@ shape-bounds s e =
       reference-high = λ axis. numbers axis .1;
     }
 
+-- No axis of an allowed reference is above 1,048,576.
+pub reference-small : (s : Shape) (r : List ℕ) → shape-allowed s ≡ true → r ≡ reference s → (axis : ℕ) → getD r axis 0 ≤ 1048576
+reference-small s r e is axis = rw is (shape-bounds s e .reference-high axis)
+
 -- A point that dominates another is at most it, by the axis.
-dominates-axis : (p q : List ℕ) → length p ≤ length q → dominates p q ≡ true → (axis : ℕ) → getD p axis 0 ≤ getD q axis 0
+pub dominates-axis : (p q : List ℕ) → length p ≤ length q → dominates p q ≡ true → (axis : ℕ) → getD p axis 0 ≤ getD q axis 0
 unfolding dominates
 dominates-axis [] q l e axis = zero-le
 dominates-axis (x ∷ p) [] l e axis = absurd (let no : ⊥ = omega arith in no)

@@ -1,13 +1,19 @@
 -- Laws of the tests of row 3 on lists: one list behind the other, one trial more at the end, a first part.
-use mathlib.Core.Path.{_≡_, refl, sym, ap, _∙_}
+use Prim.Native.Nat.{ℕ}
+use mathlib.Core.Path.{_≡_, refl, sym, ap, ap₂, _∙_}
 use mathlib.Core.Bool.{Bool, true, false, not}
 use mathlib.Core.List.{List, _∷_, _++_, []}
 use lib.Dec.{eqb}
 use Rattle.slices.specs.Choices.{both, either}
 use Rattle.slices.proofs.Choices.{both-true, both-intro, both-comm, both-assoc}
-use Rattle.words.specs.Archive.{Trial, Row, Shape, trials, before}
+use Rattle.words.specs.Archive.{Trial, Row, Shape, trials, ascends, key, before}
 use Rattle.words.specs.Format.{row-allowed, rows-allowed, ordered, held, distinct, sound-rows}
 use Rattle.words.proofs.Held.{eqb-sym, held-append, held-snoc}
+
+-- The order of two trials, by their keys.
+pub before-keys : (t u : Trial) {a b : List ℕ} {r : Bool} → a ≡ key t → b ≡ key u → r ≡ ascends a b → r ≡ before t u
+unfolding before
+before-keys t u e f g = g ∙ ap₂ ascends e f
 
 pub trials-append : (a b : List Row) → trials (a ++ b) ≡ trials a ++ trials b
 unfolding trials

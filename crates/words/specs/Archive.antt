@@ -50,5 +50,8 @@ ascends (m ∷ a) [] = false
 ascends (m ∷ a) (n ∷ b) = either (ltb m n) (both (eqb m n) (ascends a b))
 
 -- "Records stand in ascending order of z, then y, then x, then trial number": t stands before u.
+abbrev pub key : Trial → List ℕ
+key t = t .z ∷ t .y ∷ t .x ∷ t .number ∷ []
+
 unfoldable pub before : Trial → Trial → Bool
-before t u = ascends (t .z ∷ t .y ∷ t .x ∷ t .number ∷ []) (u .z ∷ u .y ∷ u .x ∷ u .number ∷ [])
+before t u = ascends (key t) (key u)

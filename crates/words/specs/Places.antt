@@ -4,19 +4,27 @@ use mathlib.Core.Bool.{Bool, true, false, not}
 use mathlib.Core.Path.{_≡_}
 use mathlib.Core.List.{List}
 use lib.Dec.{ltb}
-use lib.ListN.{length, drop}
+use lib.ListN.{length, drop, getD}
 use Rattle.slices.specs.Choices.{both}
 use Rattle.hypervolume.specs.Cells.{box}
-use Rattle.words.specs.Archive.{Row, Shape, reference, trials, before}
+use Rattle.words.specs.Archive.{Trial, Row, Shape, reference, trials, before}
 use Rattle.words.specs.Layout.{word, read-row, read-rows, read-shape, extent}
 use Rattle.words.specs.Format.{header-allowed, row-allowed, held}
 use Rattle.words.specs.declared.rows.Row as code-row
+use Rattle.words.specs.declared.rows.Record as code-record
 use Rattle.words.specs.declared.rows.Shape as code-shape
 
--- The code's structs as a record and a shape.
+-- The code's structs as records and a shape.
 abbrev pub as-row : code-row.Row → Row
 as-row r =
     record { trial = record { number = r .number; x = r .x; y = r .y; z = r .z }; kept = r .kept }
+
+-- A number and a point's coordinates as a trial.
+abbrev pub as-trial : ℕ → List ℕ → Trial
+as-trial number p = record { number = number; x = getD p 0 0; y = getD p 1 0; z = getD p 2 0 }
+
+abbrev pub as-record : code-record.Record → Row
+as-record r = record { trial = as-trial (r .number) (r .point .at); kept = r .kept }
 
 abbrev pub as-shape : code-shape.Shape → Shape
 as-shape s = record { capacity = s .capacity; rx = s .rx; ry = s .ry; rz = s .rz }

@@ -1,5 +1,5 @@
--- The table in which the check notes the numbers that it has met: 65,536 bits in 1,024 words, so that a number twice
--- costs no pass over all pairs. A number's bit is at the number mod 65,536; two numbers may share one.
+-- The table in which a check, of words or of a card, notes the numbers that it has met: 65,536 bits in 1,024 words, so
+-- that a number twice costs no pass over all pairs. A number's bit is at the number mod 65,536; two numbers may share one.
 use Prim.Native.Nat.{ℕ, _/_, _%_, _^_}
 use mathlib.Core.Bool.{Bool, true}
 use mathlib.Core.Path.{_≡_}

@@ -1,18 +1,19 @@
 // Rows 1 to 3 of the table of refusals: what words must be to be read as an archive.
 use crate::rows::Row;
 use crate::rows::Shape;
+use crate::rows::reference_point;
 use crate::rows::row_at;
 use crate::rows::search;
 use crate::rows::shape_of;
+use hypervolume::Point;
 ghost use mathlib.Core.Path.{_≡_};
 ghost use mathlib.Core.Bool.{true, false};
-ghost use Prim.Native.Nat.{_+_, _-_, _*_, _≤_};
-ghost use lib.Dec.{ltb, eqb};
-ghost use lib.ListN.{length};
+ghost use Prim.Native.Nat.{ℕ, _+_, _-_, _*_, _≤_};
+ghost use lib.ListN.{length, getD};
 ghost use lib.Seq.{slice};
-ghost use Rattle.slices.specs.Choices.{both, either};
+ghost use Rattle.slices.specs.Choices.{both};
 ghost use Rattle.hypervolume.specs.Cells.{box};
-ghost use Rattle.words.specs.Archive.{reference, before};
+ghost use Rattle.words.specs.Archive.{reference, ascends};
 ghost use Rattle.words.specs.Layout.{read-shape, read};
 ghost use Rattle.words.specs.Format.{within, shape-allowed, number-allowed, coordinates-allowed, header-allowed, row-allowed, sound-rows, zeros, records-allowed, archive-rows};
 ghost use Rattle.words.specs.Places.{as-row, as-shape, follows, stands, AtPlace, Headed};
@@ -58,12 +59,12 @@ pub fn coordinates_allowed(s: Shape, row: Row) -> bool
     both(row.x <= s.rx, both(row.y <= s.ry, row.z <= s.rz))
 }
 
-// The box, at most 2^60 cells.
-pub fn box_of(s: Shape) -> u64
-    requires { ⌜ shape-allowed (as-shape s) ≡ true ⌝ }
-    ensures { λ r. ⌜ r ≡ box (reference (as-shape s)) ⌝ }
+// The box, at most 2^60 cells: the origin dominates them all.
+pub fn box_of(reference: Point) -> u64
+    requires { ⌜ ((axis : ℕ) → getD (reference .at) axis 0 ≤ 1048576) ⌝ }
+    ensures { λ r. ⌜ r ≡ box (reference .at) ⌝ }
 {
-    s.rx * (s.ry * s.rz)
+    Point::new(0, 0, 0).edges(reference)
 }
 
 // Row 2. The ranges come first, so that the box fits a word.
@@ -75,7 +76,7 @@ fn header_allowed(w: &[u64]) -> bool
     if !shape_allowed(s) {
         return false;
     }
-    let cells = box_of(s);
+    let cells = box_of(reference_point(s));
     both(
         w[6] == 0,
         both(w[7] == 0, both(w[0] <= w[1], w[5] <= cells)),
@@ -93,28 +94,19 @@ fn row_allowed(s: Shape, cells: u64, row: Row) -> bool
     )
 }
 
-// m before n, or equal and the rest ascends.
-fn ascends(m: u64, n: u64, rest: bool) -> bool
-    ensures { λ r. ⌜ r ≡ either (ltb m n) (both (eqb m n) rest) ⌝ }
+// Whether a is less than b in the first number in which they differ.
+pub fn ascends(a: [u64; 4], b: [u64; 4]) -> bool
+    ensures { λ r. ⌜ r ≡ ascends a b ⌝ }
 {
-    if m < n { true } else { both(m == n, rest) }
-}
-
-// Whether t stands before u in ascending order of z, then y, then x, then trial number. Mostly z decides.
-pub fn before(t: Row, u: Row) -> bool
-    ensures { λ r. ⌜ r ≡ before (as-row t .trial) (as-row u .trial) ⌝ }
-{
-    if t.z < u.z {
-        return true;
+    for i in 0..4usize {
+        if a[i] < b[i] {
+            return true;
+        }
+        if b[i] < a[i] {
+            return false;
+        }
     }
-    if u.z < t.z {
-        return false;
-    }
-    ascends(
-        t.y,
-        u.y,
-        ascends(t.x, u.x, ascends(t.number, u.number, false)),
-    )
+    false
 }
 
 // Whether the record at place i stands in order behind the one before it.
@@ -125,11 +117,11 @@ fn follows(w: &[u64], i: usize) -> bool
     if i == 0 {
         return true;
     }
-    before(row_at(w, i - 1), row_at(w, i))
+    ascends(row_at(w, i - 1).key(), row_at(w, i).key())
 }
 
 // Notes the number in the table, and says whether its bit was set before.
-fn mark(table: &mut [u64], number: u64) -> bool
+pub fn mark(table: &mut [u64], number: u64) -> bool
     requires { ⌜ length (now table) ≡ 1024 ⌝ }
     ensures { λ r. ⌜ r ≡ marked (now (table .entry)) number ⌝ }
     ensures { λ r. ⌜ Marking (now (table .entry)) (now (table .exit)) number ⌝ }
@@ -160,7 +152,7 @@ fn rows_allowed(w: &[u64]) -> bool
     requires { ⌜ Headed (now w) ⌝ }
     ensures { λ r. ⌜ r ≡ sound-rows (read-shape (now (w .entry))) (read (now (w .entry)) .rows) ⌝ }
 {
-    let cells = box_of(shape_of(w));
+    let cells = box_of(reference_point(shape_of(w)));
     let n = w[0] as usize;
     let mut table = [0u64; 1024];
     let mut i: usize = 0;

@@ -5,12 +5,13 @@ use mathlib.Core.Bool.{Bool, true, false, not}
 use mathlib.Core.List.{List, _∷_, map, []}
 use lib.Dec.{eqb}
 use borrow.Author.Tests.{eq-eqb, ne-eqb}
-use lib.ListN.{take}
+use lib.ListN.{length, take}
 use lib.Seq.{take-at}
 use Rattle.slices.specs.Choices.{both, either}
 use Rattle.hypervolume.specs.Counts.{total, contribution, contributions}
 use Rattle.words.specs.Archive.{Row, Archive, point, trials, points}
 use Rattle.words.specs.Layout.{read, word, record-words}
+use Rattle.words.specs.Places.{rows-before}
 use Rattle.calls.specs.Calls.{reference-of, held-points, rows-counted, audited}
 use Rattle.records.specs.Columns.{field-of, column}
 use Rattle.records.specs.Amounts.{some-pair}
@@ -42,11 +43,12 @@ pub total-differs : (w : List ℕ) (r : ℕ) → r ≡ total (reference-of (read
 unfolding audited both read
 total-differs w r e n = sym (ap (λ b. both b (rows-counted (read w) (read w .rows))) (ne-eqb _ _ (λ z. n (z ∙ sym e))))
 
-pub total-equals : (w vs ms : List ℕ) (r : ℕ) (b : Bool) → r ≡ total (reference-of (read w)) (held-points (read w)) → word w 5 ≡ r
-    → vs ≡ column 4 (read w .rows) → ms ≡ contributions (reference-of (read w)) (held-points (read w))
-    → b ≡ some-pair (λ v m. not (eqb v m)) vs ms → not b ≡ audited (read w)
+pub total-equals : (w ms : List ℕ) (r : ℕ) (b : Bool) → r ≡ total (reference-of (read w)) (held-points (read w)) → word w 5 ≡ r
+    → ms ≡ contributions (reference-of (read w)) (held-points (read w))
+    → b ≡ some-pair (λ v m. not (eqb v m)) (column 4 (rows-before w (length ms))) ms → not b ≡ audited (read w)
 unfolding audited both read contributions
-total-equals w vs ms r b e s v m d =
-    ap not (d ∙ ap₂ (some-pair (λ v m. not (eqb v m))) v m)
+total-equals w ms r b e s m d =
+    let many : length ms ≡ word w 0 = ap length m ∙ length-each _ (read w .rows) ∙ count-rows w in
+    ap not (d ∙ ap₂ (λ n l. some-pair (λ v m. not (eqb v m)) (column 4 (rows-before w n)) l) many m)
     ∙ sym (counted-pairs (read w) (read w .rows))
     ∙ sym (ap (λ t. both t (rows-counted (read w) (read w .rows))) (eq-eqb _ _ (s ∙ e)))

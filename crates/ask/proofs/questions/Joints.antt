@@ -1,9 +1,12 @@
 -- The joint count of two held trials, from the counts of the first with the others.
-use Prim.Native.Nat.{ℕ, zero, suc, _-_, _≤_, _<_}
+use Prim.Native.Nat.{ℕ, zero, suc, _+_, _-_, _≤_, _<_}
 use mathlib.Core.Path.{_≡_, refl, sym, ap, ap₂, _∙_}
+use mathlib.Core.Bool.{Bool, true, false}
 use mathlib.Core.List.{List, _∷_, map, []}
 use native.Mathlib.Omega.{arith}
-use lib.ListN.{length, getD, List·getD-append}
+use lib.Dec.{ltb}
+use borrow.Author.Tests.{lt-ltb, le-ltb, ltb-true}
+use lib.ListN.{length, take, getD}
 use Rattle.hypervolume.specs.Counts.{cover, joint, joints}
 use Rattle.hypervolume.proofs.Counting.{SameCover, joint-same}
 use Rattle.words.specs.Archive.{Row, point, trials, points}
@@ -11,27 +14,14 @@ use Rattle.words.specs.Layout.{word, read}
 use Rattle.words.specs.Format.{archive-rows}
 use Rattle.words.specs.Places.{row-at}
 use Rattle.calls.specs.Calls.{reference-of, held-points, joint-of, row-of}
-use Rattle.records.specs.Columns.{leave-out}
+use Rattle.slices.specs.Choices.{pick}
+use Rattle.corners.specs.declared.Updated.{Updated}
+use Rattle.records.specs.Columns.{leave-out, place-but}
+use Rattle.records.specs.Amounts.{amounts-at}
 use Rattle.ask.specs.RecordCounts.{CountedJoints}
 use Rattle.calls.proofs.Known.{known, count-rows}
-use Rattle.records.proofs.LeaveOut.{row-of-at, length-leave-out}
+use Rattle.records.proofs.LeaveOut.{row-of-at, length-leave-out, leave-at}
 use Rattle.records.proofs.RowAt.{blank, row-there}
-
--- Where a record stands once the one at place i is left out: before i its place is the same, behind i one lower.
-pub leave-before : (rows : List Row) (i k : ℕ) (d : Row) → k < i → getD (leave-out i rows) k d ≡ getD rows k d
-unfolding leave-out
-leave-before rows zero k d l = absurd (let no′ : ⊥ = omega arith in no′)
-leave-before [] (suc i) k d l = refl
-leave-before (r ∷ rows) (suc i) zero d l = refl
-leave-before (r ∷ rows) (suc i) (suc k) d l = leave-before rows i k d (omega arith)
-
-pub leave-behind : (rows : List Row) (i k : ℕ) (d : Row) → i ≤ k → getD (leave-out i rows) k d ≡ getD rows (suc k) d
-unfolding leave-out
-leave-behind [] zero k d l = refl
-leave-behind [] (suc i) k d l = refl
-leave-behind (r ∷ rows) zero k d l = refl
-leave-behind (r ∷ rows) (suc i) zero d l = absurd (let no′ : ⊥ = omega arith in no′)
-leave-behind (r ∷ rows) (suc i) (suc k) d l = leave-behind rows i k d (omega arith)
 
 -- A record and the others dominate a cell as often as all do.
 pub leave-cover : (rows : List Row) (i : ℕ) (d : Row) → i < length rows
@@ -65,6 +55,27 @@ joints-at : (r u : List ℕ) (rows : List Row) (j : ℕ) (d : Row) → j < lengt
 unfolding joints
 joints-at r u rows j d l = at-place _ rows j d l
 
+-- The place of the record at k among the others of the one at i.
+module _ (i k : ℕ) where
+  pub among-before : k ≤ i → (i ≡ k → ⊥) → place-but i k ≡ k
+  unfolding place-but pick
+  among-before l apart = rw (lt-ltb k i (less k i l (λ e. apart (sym e))))
+    where
+      less : (m n : ℕ) → m ≤ n → (m ≡ n → ⊥) → m < n
+      less m n l d = omega arith
+
+  pub among-behind : i < k → place-but i (k - 1) ≡ k
+  unfolding place-but pick
+  among-behind l = rw (le-ltb (k - 1) i (let m : i ≤ k - 1 = omega arith in m)) (omega arith)
+
+  among : (j n : ℕ) → place-but i j ≡ k → k < n → i < n → (i ≡ k → ⊥) → j < n - 1
+  unfolding place-but pick
+  among j n e l m apart = go (ltb j i) refl e
+    where
+      go : (b : Bool) → ltb j i ≡ b → pick b j (j + 1) ≡ k → j < n - 1
+      go true t f = omega (arith, ltb-true j i t)
+      go false t f = omega arith
+
 -- The trials at two places, and the counts with the first of them over the others.
 module _ (w : List ℕ) (i k : ℕ) (p : archive-rows w 0 ≡ 0) (li : i < word w 0) (lk : k < word w 0) where
   there : (j : ℕ) → j < word w 0 → getD (read w .rows) j blank ≡ row-at w j
@@ -78,44 +89,28 @@ module _ (w : List ℕ) (i k : ℕ) (p : archive-rows w 0 ≡ 0) (li : i < word 
       ∙ row-of-at (read w .rows) j blank (omega arith) (known w p .sound .apart)
       ∙ there j l
 
-  counted-at : (q before after : List ℕ) (r j : ℕ) → q ≡ point (row-at w i .trial) → CountedJoints w i q before after r
-      → j < length (leave-out i (read w .rows)) → getD (leave-out i (read w .rows)) j blank ≡ getD (read w .rows) k blank
-      → getD after j 0 ≡ joint-of (read w) (row-at w i .trial .number) (row-at w k .trial .number)
+  -- the amount at the place that the other trial has among the others
+  pub joint-counted : {q places counts : List ℕ} {r : Updated} (j v : ℕ) → q ≡ point (row-at w i .trial) → CountedJoints w i q places counts r → (i ≡ k → ⊥) → place-but i j ≡ k
+      → v ≡ getD (amounts-at (length (leave-out i (read w .rows))) (take (r .moved) places) (take (r .moved) counts)) j 0
+      → v ≡ joint-of (read w) (row-at w i .trial .number) (row-at w k .trial .number)
   unfolding joint-of
-  counted-at q before after r j e c l s =
+  joint-counted {q} {places} {counts} {r} j v e c apart there′ is =
       let R = reference-of (read w) in
       let P = held-points (read w) in
       let others = points (trials (leave-out i (read w .rows))) in
       let size : length (read w .rows) ≡ word w 0 = count-rows w in
+      let left : suc (length (leave-out i (read w .rows))) ≡ length (read w .rows) = length-leave-out i (read w .rows) (omega arith) in
       let first : q ≡ point (getD (read w .rows) i blank .trial) = e ∙ ap (λ x. point (x .trial)) (sym (there i li)) in
-      let front : getD after j 0 ≡ getD (joints R others q) j 0 =
-      ap (λ x. getD x j 0) (c .each)
-      ∙ List·getD-append (joints R others q) _ 0 j (let m : j < length (joints R others q) = omega (arith, length-joints R q (leave-out i (read w .rows)), l) in m) in
-      let value : getD after j 0 ≡ joint R (q ∷ others) q (point (getD (read w .rows) k blank .trial)) =
-      front
+      let below : j < length (read w .rows) - 1 = among i k j (length (read w .rows)) there′ (omega arith) (omega arith) apart in
+      let l : j < length (leave-out i (read w .rows)) = omega arith in
+      let s : getD (leave-out i (read w .rows)) j blank ≡ getD (read w .rows) k blank =
+      leave-at (read w .rows) i j blank ∙ ap (λ x. getD (read w .rows) x blank) there′ in
+      let value : v ≡ joint R (q ∷ others) q (point (getD (read w .rows) k blank .trial)) =
+      is
+      ∙ ap (λ x. getD x j 0) (sym (c .each .is-spread))
       ∙ joints-at R q (leave-out i (read w .rows)) j blank l
       ∙ ap (λ x. joint R (q ∷ others) q (point (x .trial))) s in
       value
       ∙ ap₂ (λ x y. joint R (x ∷ others) y (point (getD (read w .rows) k blank .trial))) first e
       ∙ joint-same R _ P _ _ (leave-cover (read w .rows) i blank (omega arith))
       ∙ ap₂ (λ x y. joint R P (point (x .trial)) (point (y .trial))) (sym (by-number i li)) (there k lk ∙ sym (by-number k lk))
-
-  pub joint-behind : (q before after : List ℕ) (r : ℕ) → q ≡ point (row-at w i .trial) → CountedJoints w i q before after r → i < k
-      → getD after (k - 1) 0 ≡ joint-of (read w) (row-at w i .trial .number) (row-at w k .trial .number)
-  joint-behind q before after r e c l =
-      let size : length (read w .rows) ≡ word w 0 = count-rows w in
-      let left : suc (length (leave-out i (read w .rows))) ≡ length (read w .rows) = length-leave-out i (read w .rows) (omega arith) in
-      let up : suc (k - 1) ≡ k = omega arith in
-      counted-at q before after r (k - 1) e c (omega arith)
-      (leave-behind (read w .rows) i (k - 1) blank (omega arith) ∙ ap (λ x. getD (read w .rows) x blank) up)
-
-  pub joint-before : (q before after : List ℕ) (r : ℕ) → q ≡ point (row-at w i .trial) → CountedJoints w i q before after r → k ≤ i → (i ≡ k → ⊥)
-      → getD after k 0 ≡ joint-of (read w) (row-at w i .trial .number) (row-at w k .trial .number)
-  joint-before q before after r e c most apart =
-      let l : k < i = less k i most (λ z. apart (sym z)) in
-      let size : length (read w .rows) ≡ word w 0 = count-rows w in
-      let left : suc (length (leave-out i (read w .rows))) ≡ length (read w .rows) = length-leave-out i (read w .rows) (omega arith) in
-      counted-at q before after r k e c (omega arith) (leave-before (read w .rows) i k blank l)
-    where
-      less : (m n : ℕ) → m ≤ n → (m ≡ n → ⊥) → m < n
-      less m n l d = omega arith

@@ -1,21 +1,17 @@
 -- Laws of the loading of a card: a line's call, and the loop over the further lines.
-use Prim.Native.Nat.{ℕ, zero, suc, _+_, _-_, _*_, _≤_, _<_}
+use Prim.Native.Nat.{ℕ, zero, suc, _+_, _-_, _*_, _≤_}
 use mathlib.Core.Path.{_≡_, refl, sym, ap, _∙_}
-use mathlib.Core.Bool.{Bool, true, false}
 use mathlib.Core.List.{List, _∷_, []}
-use mathlib.Core.Option.{Option, none, some}
+use mathlib.Core.Option.{Option, none}
 use native.Mathlib.Omega.{arith}
-use lib.Dec.{ltb}
 use lib.ListN.{length, drop}
-use Rattle.slices.specs.Choices.{pick}
-use Rattle.hypervolume.proofs.Tests.{Compared, below, above, compared}
-use Rattle.text.specs.Lines.{Numbers, line-from, numbers-of}
+use Rattle.text.specs.Lines.{Numbers, numbers-of}
 use Rattle.text.specs.declared.Line.{Line}
 use Rattle.text.specs.declared.Line.the-variants.{Values, Malformed}
 use Rattle.calls.specs.Lent.{Outcome, shape-of, trial-of, start, insert}
 use Rattle.card.specs.declared.Loaded.{Loaded}
 use Rattle.card.specs.Card.{shape-on, trial-on, line-count, lines, due, malformed, by-form, first-line, further-line, Loading, refused, accepted, judged, further, from-first, load, ReadInto}
-use Rattle.card.proofs.CardLines.{lines-left, no-line-left}
+use Rattle.card.proofs.CardLines.{Inside, lines-due, no-lines-due}
 
 -- A line that is not of the form, and the call that any other line makes.
 missing : (w : List ℕ) (call : Numbers → Outcome) {l : Line} → l ≡ Malformed → malformed w ≡ by-form w (numbers-of l) call
@@ -50,51 +46,6 @@ pub same-outcome : {o q : Outcome} {r : ℕ} {after : List ℕ} → o ≡ q → 
     → (r ≡ q .refusal) × (after ≡ q .words)
 same-outcome e said = rw (← e) said
 
--- A line that is due.
-pub record Inside (card : List ℕ) (line : ℕ) (l : Option Numbers) : Type 0 where
-  pub first : 1 ≤ line
-  pub last : line ≤ line-count card
-  pub is : line-from (33 * (line - 1)) card ≡ l
-
-no-some : {A B : Type 0} {a : A} → _≡_ {A = Option A} (some a) none → B
-no-some e = absurd (let z : _≡_ {A = ℕ} 0 1 = cc in omega arith)
-
-pub inside : (card : List ℕ) {line : ℕ} {l : Option Numbers} → some l ≡ due card line → Inside card line l
-unfolding due pick
-inside card {line} {l} e = go line e
-  where
-    chosen : (i : ℕ) (t : Bool) → Compared (suc i) (line-count card) t → some l ≡ pick t (some (line-from (33 * i) card)) none
-        → Inside card (suc i) l
-    chosen i true (below p) e =
-        let same : line-from (33 * i) card ≡ l = cc in
-        let one : suc i - 1 ≡ i = omega arith in
-        record { first = omega arith; last = p; is = rw one same }
-    chosen i false (above p) e = no-some e
-
-    go : (line : ℕ) → some l ≡ due card line → Inside card line l
-    go zero e = no-some e
-    go (suc i) e = chosen i (ltb i (line-count card)) (compared (suc i) (line-count card)) e
-
--- No line is due behind the last one.
-pub no-line-due : (card : List ℕ) {line : ℕ} → 1 ≤ line → none ≡ due card line → line-count card ≤ line - 1
-unfolding due pick
-no-line-due card {line} one e = go line one e
-  where
-    chosen : (i : ℕ) (t : Bool) → Compared (suc i) (line-count card) t → none ≡ pick t (some (line-from (33 * i) card)) none
-        → line-count card ≤ suc i - 1
-    chosen i true (below p) e = no-some (sym e)
-    chosen i false (above p) e = omega arith
-
-    go : (line : ℕ) → 1 ≤ line → none ≡ due card line → line-count card ≤ line - 1
-    go zero one e = absurd (let no′ : ⊥ = omega arith in no′)
-    go (suc i) one e = chosen i (ltb i (line-count card)) (compared (suc i) (line-count card)) e
-
--- The card from line 1 on.
-first-lines : (card : List ℕ) {l : Option Numbers} → Inside card 1 l → lines card ≡ l ∷ lines (drop 33 card)
-first-lines card i =
-    let some-line : 0 < line-count card = i .last in
-    lines-left card 0 some-line ∙ ap (λ l. l ∷ lines (drop 33 card)) (i .is)
-
 -- A refusal: of what was read nothing matters.
 read-refused : (before : List ℕ) (k line : ℕ) {l : Loading} {after : List ℕ} {r : Loaded} → l ≡ refused before k line → (k ≡ 0 → ⊥)
     → r ≡ record { refusal = k; line = line; count = 0 } → ReadInto l r after
@@ -116,7 +67,7 @@ pub card-missing : (w card : List ℕ) {r : Loaded} {after : List ℕ} → none 
     → r ≡ record { refusal = 15; line = 1; count = 0 } → ReadInto (load w card) r after
 unfolding load from-first
 card-missing w card e said =
-    let empty : lines card ≡ [] = no-line-left card 0 (no-line-due card {line = 1} (omega arith) e) in
+    let empty : lines card ≡ [] = no-lines-due card {line = 1} (omega arith) e in
     read-refused w 15 1 (ap (from-first w) empty) (λ z. omega arith) said
 
 module _ (w card : List ℕ) {l : Option Numbers} (i : Inside card 1 l) {k : ℕ} (e : k ≡ first-line w l .refusal) where
@@ -124,12 +75,12 @@ module _ (w card : List ℕ) {l : Option Numbers} (i : Inside card 1 l) {k : ℕ
       → ReadInto (load w card) r after
   unfolding load from-first
   first-refused other said =
-      read-refused w k 1 (ap (from-first w) (first-lines card i) ∙ (rw (← e) (judged-refused w k 1 _ other))) other said
+      read-refused w k 1 (ap (from-first w) (lines-due card i) ∙ (rw (← e) (judged-refused w k 1 _ other))) other said
 
   pub first-done : {after : List ℕ} → k ≡ 0 → after ≡ first-line w l .words → load w card ≡ further w after 0 (lines (drop 33 card))
   unfolding load from-first
   first-done done words =
-      ap (from-first w) (first-lines card i) ∙ (rw (← e, ← words) (judged-done w k 1 _ done))
+      ap (from-first w) (lines-due card i) ∙ (rw (← e, ← words) (judged-done w k 1 _ done))
 
 -- The loop over the further lines, from the words w₁ on: loading comes to what it comes to from here.
 pub record Reading (card w₁ : List ℕ) (line : ℕ) (w : List ℕ) : Type 0 where
@@ -148,10 +99,8 @@ module _ {card w₁ w : List ℕ} {line : ℕ} (r : Reading card w₁ line w) wh
   -- The next line, and those behind it.
   next-lines : {l : Option Numbers} → Inside card line l → lines (drop (33 * (line - 1)) card) ≡ l ∷ lines (drop (33 * (line + 1 - 1)) card)
   next-lines i =
-      let first : 1 ≤ line = i .first in
-      let last : line ≤ line-count card = i .last in
-      let next : line - 1 + 1 ≡ line + 1 - 1 = omega arith in
-      lines-left card (line - 1) (omega arith) ∙ (rw (i .is, next))
+      let next : line + 1 - 1 ≡ line = omega arith in
+      rw next (lines-due card i)
 
   module _ {l : Option Numbers} (i : Inside card line l) {k : ℕ} (e : k ≡ further-line w l .refusal) where
     pub reading-more : {after : List ℕ} → k ≡ 0 → after ≡ further-line w l .words → length after ≡ length w → Reading card w₁ (line + 1) after
@@ -188,11 +137,6 @@ module _ {card w₁ w : List ℕ} {line : ℕ} (r : Reading card w₁ line w) wh
   unfolding further accepted
   reading-end before begun e =
       let second : 2 ≤ line = r .second in
-      let empty : lines (drop (33 * (line - 1)) card) ≡ [] = no-line-left card (line - 1) (no-line-due card {line = line} (omega arith) e) in
+      let empty : lines (drop (33 * (line - 1)) card) ≡ [] = no-lines-due card {line = line} (omega arith) e in
       let whole : load before card ≡ accepted (line - 2) w = begun ∙ r .left before ∙ ap (further before w (line - 2)) empty in
       record { answer = sym (ap (λ x. x .answer) whole); words = λ none′. sym (ap (λ x. x .words) whole) }
-
--- A card has no more lines than bytes.
-pub few-lines : (card : List ℕ) → line-count card ≤ length card
-unfolding line-count
-few-lines card = omega arith

@@ -1,6 +1,6 @@
 -- The ways out of insert.
 use Prim.Native.Nat.{ℕ}
-use mathlib.Core.Path.{_≡_, refl, sym, ap, _∙_}
+use mathlib.Core.Path.{_≡_, refl, sym, ap, subst, _∙_}
 use mathlib.Core.Bool.{Bool, true, false}
 use mathlib.Core.List.{List, _++_, []}
 use native.Mathlib.Omega.{arith}
@@ -42,3 +42,7 @@ insert-put w left t r p a e l = go (insert-overruns (read w) t) refl e l
     go false q e l =
         let o = leaves-done w [] (archive-rows w (insert-rows (read w) t)) 0 (layout (inserted (read w) t) ++ behind w) [] (rows false q) in
         (e ∙ sym (ap (λ (x : Outcome). x .refusal) o), l ∙ sym (ap (λ (x : Outcome). x .words) o))
+
+-- The same outcome, the trial by another name.
+pub insert-same : (w left : List ℕ) (r : ℕ) {t u : Trial} → t ≡ u → (r ≡ insert w t .refusal) × (left ≡ insert w t .words) → (r ≡ insert w u .refusal) × (left ≡ insert w u .words)
+insert-same w left r e h = subst (λ t. (r ≡ insert w t .refusal) × (left ≡ insert w t .words)) e h

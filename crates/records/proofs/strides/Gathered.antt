@@ -1,7 +1,8 @@
--- The loop of gather: so many of the words are copied.
+-- The loop of load: so many of the words are copied.
 use Prim.Native.Nat.{ℕ, zero, suc, _+_, _*_, _≤_, _<_}
 use mathlib.Core.Path.{_≡_, refl, sym, ap, _∙_}
 use mathlib.Core.List.{List}
+use native.Mathlib.Nat.{zero-add}
 use native.Mathlib.Omega.{arith}
 use lib.ListN.{length, drop, set, getD}
 use lib.Seq.{getD-drop}
@@ -19,31 +20,31 @@ fifths-at (suc n) w (suc i) l =
     ∙ sym (getD-drop 5 w (5 * i) 0)
     ∙ fifths-at n (drop 5 w) i (omega arith)
 
-pub record Gathered (w : List ℕ) (first n : ℕ) (old : List ℕ) (at : ℕ) (now : List ℕ) (i : ℕ) : Type 0 where
+pub record Gathered (w : List ℕ) (first n : ℕ) (old now : List ℕ) (i : ℕ) : Type 0 where
   pub part : i ≤ n
-  pub room : at + n ≤ length old
+  pub room : n ≤ length old
   pub long : length now ≡ length old
-  pub done : Written old at (fifths n (drop first w)) i now
+  pub done : Written old 0 (fifths n (drop first w)) i now
 
 module _ (w : List ℕ) (first n : ℕ) where
   many : length (fifths n (drop first w)) ≡ n
   many = length-fifths n (drop first w)
 
-  pub gathered-none : (old : List ℕ) (at : ℕ) → at + n ≤ length old → Gathered w first n old at old 0
-  gathered-none old at room =
+  pub gathered-none : (old : List ℕ) → n ≤ length old → Gathered w first n old old 0
+  gathered-none old room =
       record {
         part = omega arith;
         room = room;
         long = refl;
-        done = written-none old at (fifths n (drop first w)) (omega (arith, many));
+        done = written-none old 0 (fifths n (drop first w)) (omega (arith, many));
       }
 
-module _ {w : List ℕ} {first n : ℕ} {old : List ℕ} {at : ℕ} {now : List ℕ} {i : ℕ} (h : Gathered w first n old at now i) where
-  pub gathered-more : i < n → Gathered w first n old at (set now (at + i) (getD w (first + 5 * i) 0)) (i + 1)
+module _ {w : List ℕ} {first n : ℕ} {old now : List ℕ} {i : ℕ} (h : Gathered w first n old now i) where
+  pub gathered-more : i < n → Gathered w first n old (set now i (getD w (first + 5 * i) 0)) (i + 1)
   gathered-more l =
-      let done : Written old at (fifths n (drop first w)) (i + 1) (set now (at + i) (getD w (first + 5 * i) 0)) =
-      written-more (h .done) _ (omega (arith, many w first n)) (sym (getD-drop first w (5 * i) 0) ∙ fifths-at n (drop first w) i l) in
+      let done : Written old 0 (fifths n (drop first w)) (i + 1) (set now i (getD w (first + 5 * i) 0)) =
+      rw (zero-add i) at (written-more (h .done) _ (omega (arith, many w first n)) (sym (getD-drop first w (5 * i) 0) ∙ fifths-at n (drop first w) i l)) in
       record { part = omega arith; room = h .room; long = done .long; done = done }
 
-  pub gathered-end : n ≤ i → now ≡ put old at (fifths n (drop first w))
+  pub gathered-end : n ≤ i → now ≡ put old 0 (fifths n (drop first w))
   gathered-end l = written-end (h .done) (omega (arith, many w first n))

@@ -12,8 +12,8 @@ use Rattle.words.specs.Layout.{word, extent, read}
 use Rattle.words.proofs.Reading.{read-layout}
 use Rattle.calls.specs.declared.Answer.{Answer}
 use Rattle.card.specs.declared.Loaded.{Loaded}
-use Rattle.card.specs.Card.{lines, Loading, refused, accepted, load, ReadInto}
-use Rattle.card.specs.Verdict.{Verdict, refusal, archive, judge, carried-out}
+use Rattle.card.specs.Card.{lines, Loading, load, ReadInto}
+use Rattle.card.specs.Verdict.{Verdict, refusal, archive, judge, answer-of, words-of, carried-out}
 use Rattle.card.proofs.Judging.{loads}
 use Rattle.card.proofs.Verdicts as verdicts
 use Rattle.card.proofs.Theorems.{not-zero, cards-load}
@@ -39,7 +39,7 @@ put-refusal out n line {o₁} {o₂} room same e₁ e₂ =
 -- What is shown does not depend on what the slice held.
 shown-alike : (before other : List ℕ) (v : Verdict) → verdicts.Possible v
     → shown (carried-out before v .answer .refusal) (carried-out before v) ≡ shown (carried-out other v .answer .refusal) (carried-out other v)
-unfolding carried-out refused accepted shown
+unfolding carried-out answer-of words-of shown
 shown-alike before other (refusal zero line) (verdicts.refused d) = absurd (not-zero d refl)
 shown-alike before other (refusal (suc n) line) (verdicts.refused d) = refl
 shown-alike before other (archive a) (verdicts.accepted f) =

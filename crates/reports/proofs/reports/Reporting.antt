@@ -4,14 +4,14 @@ use mathlib.Core.Path.{_≡_, refl, sym, ap, _∙_}
 use mathlib.Core.List.{List, _∷_, _++_, append-assoc, append-nil, []}
 use native.Mathlib.Omega.{arith}
 use lib.Dec.{ltb}
-use lib.ListN.{length, drop, set, length-append}
+use lib.ListN.{length, getD, drop, set, length-append}
 use borrow.Author.Tests.{lt-ltb, le-ltb}
 use Rattle.slices.specs.Put.{put}
 use Rattle.slices.proofs.Put.{put-none}
 use Rattle.text.specs.Lines.{newline}
 use Rattle.text.specs.Justified.{justified}
 use Rattle.text.proofs.Justified.{length-justified}
-use Rattle.words.specs.Archive.{Row, Shape, Archive}
+use Rattle.words.specs.Archive.{Row, Archive, reference}
 use Rattle.words.specs.Layout.{word, read, read-shape, read-rows}
 use Rattle.words.specs.Format.{guard, archive-rows}
 use Rattle.words.specs.Places.{row-at, rows-before}
@@ -105,7 +105,7 @@ listing-end {w} {old} {out} {n} {i} l done =
 
 -- What passing rows 1 to 3 tells of the words that a report is made of.
 pub record Reportable (w : List ℕ) : Type 0 where
-  pub passed : Passed w
+  pub passes : archive-rows w 0 ≡ 0
   pub held : 8 + 5 * word w 0 ≤ length w
   pub few : word w 0 ≤ 512
   pub count : length (read w .rows) ≡ word w 0
@@ -117,7 +117,7 @@ reportable w e none =
     let long : 8 + 5 * word w 1 ≤ length w = p .long in
     let counted : word w 0 ≤ word w 1 = p .counted in
     let most : word w 1 ≤ 512 = p .bounds .capacity-high in
-    record { passed = p; held = omega arith; few = omega arith; count = length-read-rows (word w 0) (drop 8 w) }
+    record { passes = sym e ∙ none; held = omega arith; few = omega arith; count = length-read-rows (word w 0) (drop 8 w) }
 
 pub length-report : (a : Archive) → length (report-text a) ≡ 53 * (length (a .rows) + 1)
 unfolding report-text head-line
@@ -141,7 +141,7 @@ told-row w out {k} e some = told-refused w out k (still-refused w _ (λ z. some 
 -- Row 16, and the report, on words that have passed.
 report-row : (w out : List ℕ) → Reportable w → report-rows w out ≡ guard (ltb (length out) (53 * (word w 0 + 1))) 16 0
 unfolding report-rows
-report-row w out p = passes-again w _ (p .passed) ∙ (rw (p .count))
+report-row w out p = passes-again w _ (passed w (p .passes)) ∙ (rw (p .count))
 
 pub told-short : (w out : List ℕ) → Reportable w → length out < 53 * (word w 0 + 1) → Told w out (record { refusal = 16; value = 0 }) out
 unfolding guard
@@ -155,17 +155,17 @@ report-done w out p room =
     let rows : report-rows w out ≡ 0 = report-row w out p ∙ (rw (le-ltb (length out) (53 * (word w 0 + 1)) room)) in
     (rw rows, rw rows)
 
-pub told-report : (w out : List ℕ) {s : Shape} {out₁ out₂ : List ℕ} → Reportable w → 53 * (word w 0 + 1) ≤ length out → s ≡ read-shape w
-    → out₁ ≡ put out 0 (report-line (word w 0) (s .rx) (s .ry) (s .rz) (word w 5))
+pub told-report : (w out : List ℕ) (p : List ℕ) {out₁ out₂ : List ℕ} → Reportable w → 53 * (word w 0 + 1) ≤ length out → p ≡ reference (read-shape w)
+    → out₁ ≡ put out 0 (report-line (word w 0) (getD p 0 0) (getD p 1 0) (getD p 2 0) (word w 5))
     → out₂ ≡ put out₁ 53 (record-lines (read w .rows))
     → Told w out (record { refusal = 0; value = 53 * (word w 0 + 1) }) out₂
 unfolding report-text head-line read
-told-report w out {s} {out₁} {out₂} p room shape e₁ e₂ =
+told-report w out p {out₁} {out₂} h room is e₁ e₂ =
     let a : Archive = read w in
-    let done = report-done w out p room in
-    let head : head-line a ≡ report-line (word w 0) (s .rx) (s .ry) (s .rz) (word w 5) = (rw (shape, p .count)) in
-    let long : length (report-text a) ≡ 53 * (word w 0 + 1) = length-report a ∙ ap (λ n. 53 * (n + 1)) (p .count) in
-    let lines : length (record-lines (a .rows)) ≡ 53 * word w 0 = length-record-lines (a .rows) ∙ ap (λ n. 53 * n) (p .count) in
+    let done = report-done w out h room in
+    let head : head-line a ≡ report-line (word w 0) (getD p 0 0) (getD p 1 0) (getD p 2 0) (word w 5) = (rw (is, h .count)) in
+    let long : length (report-text a) ≡ 53 * (word w 0 + 1) = length-report a ∙ ap (λ n. 53 * (n + 1)) (h .count) in
+    let lines : length (record-lines (a .rows)) ≡ 53 * word w 0 = length-record-lines (a .rows) ∙ ap (λ n. 53 * n) (h .count) in
     let first : Laid out 0 (head-line a) 53 out₁ = record { long = length-report-line _ _ _ _ _; is = rw head e₁ } in
     let both = laid-more first (omega arith) (record-lines (a .rows)) (53 * word w 0) lines e₂ in
     ((rw long at (done .0)), both .is ∙ done .1)

@@ -1,19 +1,19 @@
 -- `sweep` meets its contract. The invariant: after i points, their total and their contributions.
-use Prim.Native.Nat.{_-_}
-use lib.ListN.{length}
+use Prim.Native.Nat.{_-_, _≤_}
+use lib.ListN.{length, getD}
 use lib.Seq.{length-take-le}
 use mathlib.Core.Path.{refl, sym}
 use native.Mathlib.Omega.{arith}
-use Rattle.sweep.proofs.SweepLaws.{Progress, progress-none, progress-index, progress-rising, progress-at, progress-flags, progress-crossing, progress-own, progress-fits, progress-entering, progress-more, progress-end}
+use Rattle.sweep.proofs.SweepLaws.{Progress, progress-none, progress-small, progress-index, progress-rising, progress-at, progress-flags, progress-crossing, progress-own, progress-fits, progress-entering, progress-more, progress-end}
 use borrow.Author.Needs.{needs}
 use Rattle.sweep.proofs.sweep.Statement.{statement}
 use Rattle.sweep.proofs.sweep.Tie as tie
 
 abbrev Inv-loop : tie.InvT-loop
-Inv-loop xs ys zs out₀ rx ry rz line₀ m₀ volume₀ i₀ out line m volume i = Progress xs ys zs out₀ rx ry rz i m volume line out
+Inv-loop points line₀ out₀ rx ry rz m₀ volume₀ i₀ line out m volume i = Progress points line₀ out₀ rx ry rz i m volume line out
 
 abbrev μ-loop : tie.MeasureT-loop
-μ-loop xs ys zs out₀ rx ry rz line₀ m₀ volume₀ i₀ out line m volume i = length xs - i
+μ-loop points line₀ out₀ rx ry rz m₀ volume₀ i₀ line out m volume i = length points - i
 
 element-copy-out-rx : tie.Need-element-copy-out-rx Inv-loop μ-loop
 element-copy-out-rx c = search needs
@@ -31,42 +31,37 @@ element-copy-out-rz : tie.Need-element-copy-out-rz Inv-loop μ-loop
 element-copy-out-rz c = search needs
 
 loop-holds : tie.Need-loop-holds Inv-loop μ-loop
-loop-holds c = progress-none (c .before .before .before .before .before .before .before .pre) (search needs) (search needs)
+loop-holds c = progress-none (c .before .before .before .before .before .pre) (search needs)
 
-mul-x : tie.Need-mul-x Inv-loop μ-loop
-mul-x c = search needs
+point-at-requires : tie.Need-point-at-requires Inv-loop μ-loop
+point-at-requires c κs = search needs
 
-shared-slice-read-x : tie.Need-shared-slice-read-x Inv-loop μ-loop
-shared-slice-read-x c = search needs
+element-copy-out-x : tie.Need-element-copy-out-x Inv-loop μ-loop
+element-copy-out-x c = search needs
 
-mul-y : tie.Need-mul-y Inv-loop μ-loop
-mul-y c = search needs
+cast-x : tie.Need-cast-x Inv-loop μ-loop
+cast-x c = search needs
 
-shared-slice-read-y : tie.Need-shared-slice-read-y Inv-loop μ-loop
-shared-slice-read-y c = search needs
+element-copy-out-y : tie.Need-element-copy-out-y Inv-loop μ-loop
+element-copy-out-y c = search needs
 
-mul-edge : tie.Need-mul-edge Inv-loop μ-loop
-mul-edge c = search needs
+cast-y : tie.Need-cast-y Inv-loop μ-loop
+cast-y c = search needs
 
-shared-slice-read-edge : tie.Need-shared-slice-read-edge Inv-loop μ-loop
-shared-slice-read-edge c = search needs
-
-cast-edge : tie.Need-cast-edge Inv-loop μ-loop
-cast-edge c =
-    let turn = c .before .before .before .before .loop in
-    record { fits = omega (arith, turn .inv .ready .zs-small (turn .i)) }
+element-copy-out-edge : tie.Need-element-copy-out-edge Inv-loop μ-loop
+element-copy-out-edge c = search needs
 
 edge-requires : tie.Need-edge-requires Inv-loop μ-loop
 edge-requires c κs = search needs
 
-array-share-prefix-line : tie.Need-array-share-prefix-line Inv-loop μ-loop
-array-share-prefix-line c = search needs
+slice-reshare-prefix-rank : tie.Need-slice-reshare-prefix-rank Inv-loop μ-loop
+slice-reshare-prefix-rank c = search needs
 
 slice-aggregate-rank : tie.Need-slice-aggregate-rank Inv-loop μ-loop
 slice-aggregate-rank c = sym (length-take-le _ _ (search needs))
 
--- the turn that an answer is of
-abbrev turn : tie.After-edge Inv-loop μ-loop → tie.In-loop Inv-loop μ-loop
+-- the turn that an answer is of: its point, and what held before it
+abbrev turn : tie.After-edge Inv-loop μ-loop → tie.After-point-at Inv-loop μ-loop
 turn c = c .before .before .before .before
 
 abbrev ranked : tie.After-rank Inv-loop μ-loop → tie.After-edge Inv-loop μ-loop
@@ -75,25 +70,25 @@ ranked c = c .before .before
 rank-requires : tie.Need-rank-requires Inv-loop μ-loop
 rank-requires c κs =
     let here = turn (c .before) in
-    (progress-rising (here .before .loop .inv) (here .loop-test .taken), here .before .loop .inv .ready .xs-small (here .before .loop .i))
+    (progress-rising (here .before .before .loop .inv) (here .before .loop-test .taken) (here .point-at .ensures), progress-small (here .before .before .loop .inv) (here .before .loop-test .taken) (here .point-at .ensures) 0)
 
-array-share-prefix-line-2 : tie.Need-array-share-prefix-line-2 Inv-loop μ-loop
-array-share-prefix-line-2 c =
+slice-reshare-prefix-look-back : tie.Need-slice-reshare-prefix-look-back Inv-loop μ-loop
+slice-reshare-prefix-look-back c =
     let here = turn (ranked c) in
-    omega (arith, progress-at (here .before .loop .inv) (here .loop-test .taken) (c .rank .ensures), here .before .loop .inv .long)
+    progress-at (here .before .before .loop .inv) (here .before .loop-test .taken) (here .point-at .ensures) (c .rank .ensures)
 
 slice-aggregate-look-back : tie.Need-slice-aggregate-look-back Inv-loop μ-loop
 slice-aggregate-look-back c =
     let here = turn (ranked (c .before)) in
-    sym (length-take-le _ _ (progress-at (here .before .loop .inv) (here .loop-test .taken) (c .before .rank .ensures)))
+    sym (length-take-le _ _ (progress-at (here .before .before .loop .inv) (here .before .loop-test .taken) (here .point-at .ensures) (c .before .rank .ensures)))
 
 look-back-requires : tie.Need-look-back-requires Inv-loop μ-loop
 look-back-requires c κs =
     let here = turn (ranked (c .before)) in
-    progress-flags (here .before .loop .inv) (here .loop-test .taken) (c .before .rank .ensures)
+    progress-flags (here .before .before .loop .inv) (here .before .loop-test .taken) (here .point-at .ensures) (c .before .rank .ensures)
 
-array-share-prefix-line-3 : tie.Need-array-share-prefix-line-3 Inv-loop μ-loop
-array-share-prefix-line-3 c = search needs
+slice-reshare-prefix-strips : tie.Need-slice-reshare-prefix-strips Inv-loop μ-loop
+slice-reshare-prefix-strips c = search needs
 
 slice-aggregate-strips : tie.Need-slice-aggregate-strips Inv-loop μ-loop
 slice-aggregate-strips c = sym (length-take-le _ _ (search needs))
@@ -106,7 +101,7 @@ strips-requires c κs =
     let seen = c .before .before in
     let edge = ranked (place seen) in
     let here = turn edge in
-    progress-crossing (here .before .loop .inv) (here .loop-test .taken) (edge .edge .ensures) (place seen .rank .ensures) (seen .look-back .ensures)
+    progress-crossing (here .before .before .loop .inv) (here .before .loop-test .taken) (here .point-at .ensures) (edge .edge .ensures) (place seen .rank .ensures) (seen .look-back .ensures)
 
 abbrev looked : tie.After-strips Inv-loop μ-loop → tie.After-look-back Inv-loop μ-loop
 looked c = c .before .before .before
@@ -116,9 +111,7 @@ mul-own c =
     let crossed = c .before .before in
     let edge = ranked (place (looked crossed)) in
     let here = turn edge in
-    record {
-      fits = progress-own (here .before .loop .inv) (here .loop-test .taken) (edge .edge .ensures) (crossed .strips .ensures);
-    }
+    record { fits = progress-own (here .before .before .loop .inv) (here .before .loop-test .taken) (here .point-at .ensures) (edge .edge .ensures) (crossed .strips .ensures) }
 
 mul-out : tie.Need-mul-out Inv-loop μ-loop
 mul-out c = search needs
@@ -131,26 +124,18 @@ add-volume c =
     let crossed = c .before .before in
     let edge = ranked (place (looked crossed)) in
     let here = turn edge in
-    record {
-      fits = progress-fits (here .before .loop .inv) (here .loop-test .taken) (edge .edge .ensures) (crossed .strips .ensures);
-    }
-
-slice-aggregate-enter : tie.Need-slice-aggregate-enter Inv-loop μ-loop
-slice-aggregate-enter c = search needs
+    record { fits = progress-fits (here .before .before .loop .inv) (here .before .loop-test .taken) (here .point-at .ensures) (edge .edge .ensures) (crossed .strips .ensures) }
 
 entry-requires : tie.Need-entry-requires Inv-loop μ-loop
 entry-requires c κs =
-    let crossed = c .before .before .before in
-    let here = turn (ranked (place (looked crossed))) in
-    let done = here .before .loop in
-    (done .inv .ready .xs-small (done .i), done .inv .ready .ys-small (done .i), progress-index (done .inv) (here .loop-test .taken))
+    let here = turn (ranked (place (looked (c .before .before .before)))) in
+    (progress-small (here .before .before .loop .inv) (here .before .loop-test .taken) (here .point-at .ensures) 0, progress-small (here .before .before .loop .inv) (here .before .loop-test .taken) (here .point-at .ensures) 1, progress-index (here .before .before .loop .inv) (here .before .loop-test .taken) (here .point-at .ensures))
 
 enter-requires : tie.Need-enter-requires Inv-loop μ-loop
 enter-requires c κs =
-    let crossed = c .before .before .before .before in
-    let place′ = place (looked crossed) in
+    let place′ = place (looked (c .before .before .before .before)) in
     let here = turn (ranked place′) in
-    progress-entering (here .before .loop .inv) (here .loop-test .taken) (place′ .rank .ensures) (c .entry .ensures)
+    progress-entering (here .before .before .loop .inv) (here .before .loop-test .taken) (here .point-at .ensures) (place′ .rank .ensures) (c .entry .ensures)
 
 add-i : tie.Need-add-i Inv-loop μ-loop
 add-i c = search needs
@@ -160,13 +145,13 @@ loop-less c = search needs
 
 loop-again : tie.Need-loop-again Inv-loop μ-loop
 loop-again c =
-    let entered = c .before in
+    let entered = c .before .before in
     let entry = entered .before in
     let crossed = entry .before .before .before .before in
     let seen = looked crossed in
     let edge = ranked (place seen) in
     let here = turn edge in
-    progress-more (here .before .loop .inv) (here .loop-test .taken) (edge .edge .ensures) (crossed .strips .ensures) refl
+    progress-more (here .before .before .loop .inv) (here .before .loop-test .taken) (here .point-at .ensures) (edge .edge .ensures) (crossed .strips .ensures) refl
     (crossed .strips .kept .1 .1 .1 .1 .1 .1 .1 .1 .0)
     (entry .entry .ensures)
     (entered .enter .ensures _ (seen .look-back .ensures .state))
@@ -174,6 +159,9 @@ loop-again c =
 
 same-length : tie.Need-same-length Inv-loop μ-loop
 same-length c = search needs
+
+same-length-2 : tie.Need-same-length-2 Inv-loop μ-loop
+same-length-2 c = search needs
 
 returns : tie.Need-returns Inv-loop μ-loop
 returns c = progress-end _ (search needs) (c .before .loop .inv) (c .loop-test .left)
@@ -190,32 +178,31 @@ sweep-spec =
     cast-ry
     element-copy-out-rz
     loop-holds
-    mul-x
-    shared-slice-read-x
-    mul-y
-    shared-slice-read-y
-    mul-edge
-    shared-slice-read-edge
-    cast-edge
+    point-at-requires
+    element-copy-out-x
+    cast-x
+    element-copy-out-y
+    cast-y
+    element-copy-out-edge
     edge-requires
-    array-share-prefix-line
+    slice-reshare-prefix-rank
     slice-aggregate-rank
     rank-requires
-    array-share-prefix-line-2
+    slice-reshare-prefix-look-back
     slice-aggregate-look-back
     look-back-requires
-    array-share-prefix-line-3
+    slice-reshare-prefix-strips
     slice-aggregate-strips
     strips-requires
     mul-own
     mul-out
     slice-write-out
     add-volume
-    slice-aggregate-enter
     entry-requires
     enter-requires
     add-i
     loop-less
     loop-again
     same-length
+    same-length-2
     returns)

@@ -1,9 +1,11 @@
 -- `agrees` meets what its callees ask.
-use Prim.Native.Nat.{_%_}
-use mathlib.Core.Path.{refl, sym}
+use Prim.Native.Nat.{_%_, _≤_}
+use mathlib.Core.Path.{sym}
 use native.Mathlib.Omega.{arith}
+use lib.ListN.{length, take}
 use lib.Seq.{length-take-le}
-use Rattle.sweep_test.proofs.Lists.{small-zeros, ready-part}
+use Rattle.hypervolume.specs.Sorted.{Sorted}
+use Rattle.sweep_test.proofs.Lists.{sorted-part}
 use borrow.Author.Needs.{needs}
 use Rattle.sweep_test.proofs.agrees.Statement.{statement}
 use Rattle.sweep_test.proofs.agrees.Tie as tie
@@ -15,60 +17,62 @@ slice-aggregate-fill : tie.Need-slice-aggregate-fill
 slice-aggregate-fill c = search needs
 
 fill-requires : tie.Need-fill-requires
-fill-requires c κs = (omega arith, small-zeros 12)
+fill-requires c κs = search needs
 
-slice-aggregate-fill-2 : tie.Need-slice-aggregate-fill-2
-slice-aggregate-fill-2 c = search needs
+array-share-prefix-points : tie.Need-array-share-prefix-points
+array-share-prefix-points c = search needs
 
-fill-requires-2 : tie.Need-fill-requires-2
-fill-requires-2 c κs = (omega arith, small-zeros 12)
+slice-aggregate-coordinates : tie.Need-slice-aggregate-coordinates
+slice-aggregate-coordinates c = sym (length-take-le _ _ (search needs))
 
-slice-aggregate-rise : tie.Need-slice-aggregate-rise
-slice-aggregate-rise c = search needs
-
-rise-requires : tie.Need-rise-requires
-rise-requires c κs = search needs
-
-array-share-prefix-xs : tie.Need-array-share-prefix-xs
-array-share-prefix-xs c = search needs
-
-slice-aggregate-agree : tie.Need-slice-aggregate-agree
-slice-aggregate-agree c = sym (length-take-le _ _ (search needs))
-
-array-share-prefix-ys : tie.Need-array-share-prefix-ys
-array-share-prefix-ys c = search needs
-
-slice-aggregate-agree-2 : tie.Need-slice-aggregate-agree-2
-slice-aggregate-agree-2 c = sym (length-take-le _ _ (search needs))
-
-array-share-prefix-zs : tie.Need-array-share-prefix-zs
-array-share-prefix-zs c = search needs
-
-slice-aggregate-agree-3 : tie.Need-slice-aggregate-agree-3
-slice-aggregate-agree-3 c = sym (length-take-le _ _ (search needs))
+coordinates-requires : tie.Need-coordinates-requires
+coordinates-requires c κs = search needs
 
 point-requires : tie.Need-point-requires
 point-requires c κs = search needs
 
+array-share-prefix-points-2 : tie.Need-array-share-prefix-points-2
+array-share-prefix-points-2 c = search needs
+
+slice-aggregate-sweep-agrees : tie.Need-slice-aggregate-sweep-agrees
+slice-aggregate-sweep-agrees c = sym (length-take-le _ _ (search needs))
+
+slice-aggregate-sweep-agrees-2 : tie.Need-slice-aggregate-sweep-agrees-2
+slice-aggregate-sweep-agrees-2 c = search needs
+
+-- The points of the set.
+part : (c : tie.After-fill) → Sorted (take (c .before .before .args .set % 13) (c .fill .last .1 .1 .0)) × (length (take (c .before .before .args .set % 13) (c .fill .last .1 .1 .0)) ≤ 12)
+part c = sorted-part (c .before .before .args .set % 13) (c .fill .last .1 .1 .0) (omega arith) (c .fill .ensures)
+
+sweep-agrees-requires : tie.Need-sweep-agrees-requires
+sweep-agrees-requires c κs =
+    let made = c .before .before in
+    let filled = made .before .before .before .before in
+    (part filled .0, part filled .1, made .point .ensures)
+
+array-share-prefix-points-3 : tie.Need-array-share-prefix-points-3
+array-share-prefix-points-3 c = search needs
+
+slice-aggregate-update-agrees : tie.Need-slice-aggregate-update-agrees
+slice-aggregate-update-agrees c = sym (length-take-le _ _ (search needs))
+
+slice-aggregate-update-agrees-2 : tie.Need-slice-aggregate-update-agrees-2
+slice-aggregate-update-agrees-2 c = search needs
+
 point-requires-2 : tie.Need-point-requires-2
 point-requires-2 c κs = search needs
 
-slice-aggregate-agree-4 : tie.Need-slice-aggregate-agree-4
-slice-aggregate-agree-4 c = search needs
-
-agree-requires : tie.Need-agree-requires
-agree-requires c κs =
-    let second = c .before in
-    let first = second .before in
-    let risen = first .before .before .before .before .before in
-    let ys = risen .before .before .before in
-    let xs = ys .before .before .before in (
-      ready-part (xs .before .before .args .set % 13) (xs .fill .last .1 .1 .1 .0) (ys .fill2 .last .1 .1 .1 .0) (risen .rise .last .1 .0) (omega arith) (xs .fill .kept .1 .1 .1 .0) (ys .fill2 .kept .1 .1 .1 .0) (risen .rise .kept .1 .0) refl (xs .fill .ensures) (ys .fill2 .ensures) (risen .rise .ensures) (first .point .ensures),
-      second .point2 .ensures,
-    )
+update-agrees-requires : tie.Need-update-agrees-requires
+update-agrees-requires c κs =
+    let made = c .before .before .before .before .before .before .before in
+    let filled = made .before .before .before .before in
+    (part filled .0, part filled .1, made .point .ensures, c .point2 .ensures)
 
 returns : tie.Need-returns
 returns c = search needs
+
+returns-2 : tie.Need-returns-2
+returns-2 c = search needs
 
 pub agrees-spec : {M : Type 1} → statement M
 agrees-spec =
@@ -77,18 +81,18 @@ agrees-spec =
     add-limit
     slice-aggregate-fill
     fill-requires
-    slice-aggregate-fill-2
-    fill-requires-2
-    slice-aggregate-rise
-    rise-requires
-    array-share-prefix-xs
-    slice-aggregate-agree
-    array-share-prefix-ys
-    slice-aggregate-agree-2
-    array-share-prefix-zs
-    slice-aggregate-agree-3
+    array-share-prefix-points
+    slice-aggregate-coordinates
+    coordinates-requires
     point-requires
+    array-share-prefix-points-2
+    slice-aggregate-sweep-agrees
+    slice-aggregate-sweep-agrees-2
+    sweep-agrees-requires
+    array-share-prefix-points-3
+    slice-aggregate-update-agrees
+    slice-aggregate-update-agrees-2
     point-requires-2
-    slice-aggregate-agree-4
-    agree-requires
-    returns)
+    update-agrees-requires
+    returns
+    returns-2)

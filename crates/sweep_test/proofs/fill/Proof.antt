@@ -1,35 +1,50 @@
--- `fill` meets its contract.
-use Prim.Native.Nat.{_-_, _%_}
+-- `fill` meets its contract. The invariant: the first i points are small and ascend up to z.
+use Prim.Native.Nat.{_-_}
 use native.Mathlib.Nat.{mod-le}
-use mathlib.Core.Path.{_≡_}
 use native.Mathlib.Omega.{arith}
-use lib.ListN.{length, length-set}
+use lib.ListN.{length}
 use borrow.Author.Needs.{needs}
-use Rattle.sweep.specs.Points.{Small}
-use Rattle.sweep_test.proofs.Lists.{small-set}
+use Rattle.sweep_test.proofs.Lists.{Filled, filled-none, filled-more, filled-end}
 use Rattle.sweep_test.proofs.fill.Statement.{statement}
 use Rattle.sweep_test.proofs.fill.Tie as tie
 
 abbrev Inv-loop : tie.InvT-loop
-Inv-loop set kind limit dst₀ i₀ dst i = Small dst × (length dst ≡ length dst₀)
+Inv-loop set limit points₀ z₀ i₀ points z i = Filled points₀ points z i
 
 abbrev μ-loop : tie.MeasureT-loop
-μ-loop set kind limit dst₀ i₀ dst i = length dst₀ - i
+μ-loop set limit points₀ z₀ i₀ points z i = length points₀ - i
 
 loop-holds : tie.Need-loop-holds Inv-loop μ-loop
-loop-holds c = search needs
+loop-holds c = filled-none _ (c .pre .1)
 
 noise-requires : tie.Need-noise-requires Inv-loop μ-loop
 noise-requires c κs = search needs
 
-rem-dst : tie.Need-rem-dst Inv-loop μ-loop
-rem-dst c = search needs
+rem-x : tie.Need-rem-x Inv-loop μ-loop
+rem-x c = search needs
 
-mul-dst : tie.Need-mul-dst Inv-loop μ-loop
-mul-dst c = search needs
+noise-requires-2 : tie.Need-noise-requires-2 Inv-loop μ-loop
+noise-requires-2 c κs = search needs
 
-slice-write-dst : tie.Need-slice-write-dst Inv-loop μ-loop
-slice-write-dst c = search needs
+rem-y : tie.Need-rem-y Inv-loop μ-loop
+rem-y c = search needs
+
+noise-requires-3 : tie.Need-noise-requires-3 Inv-loop μ-loop
+noise-requires-3 c κs = search needs
+
+add-z : tie.Need-add-z Inv-loop μ-loop
+add-z c = search needs
+
+new-requires : tie.Need-new-requires Inv-loop μ-loop
+new-requires c κs =
+    let noise3 = c .before in
+    let noise2 = noise3 .before in
+    let noise1 = noise2 .before in
+    let limit = noise1 .before .before .before .args .limit in
+    (omega (arith, noise1 .noise .ensures, mod-le (noise1 .noise .result) limit), omega (arith, noise2 .noise2 .ensures, mod-le (noise2 .noise2 .result) limit), search needs)
+
+put-point-requires : tie.Need-put-point-requires Inv-loop μ-loop
+put-point-requires c κs = search needs
 
 add-i : tie.Need-add-i Inv-loop μ-loop
 add-i c = search needs
@@ -39,17 +54,22 @@ loop-less c = search needs
 
 loop-again : tie.Need-loop-again Inv-loop μ-loop
 loop-again c =
-    let turn = c .before .before .loop in
-    let limit = c .before .before .before .before .args .limit in (
-      small-set (turn .dst) (turn .i) (c .noise .result % limit) (turn .inv .0) (omega (arith, c .noise .ensures, mod-le (c .noise .result) limit)),
-      simp length-set (turn .inv .1),
-    )
+    let new = c .before .before in
+    let noise3 = new .before .before in
+    let noise2 = noise3 .before in
+    let noise1 = noise2 .before in
+    let turn = noise1 .before in
+    let limit = turn .before .before .args .limit in
+    filled-more (turn .before .loop .inv) (turn .loop-test .taken)
+    (omega (arith, noise1 .noise .ensures, mod-le (noise1 .noise .result) limit))
+    (omega (arith, noise2 .noise2 .ensures, mod-le (noise2 .noise2 .result) limit))
+    (search needs) (new .new .ensures) (c .before .put-point .ensures)
 
 same-length : tie.Need-same-length Inv-loop μ-loop
-same-length c = search needs
+same-length c = c .before .loop .inv .alike
 
 returns : tie.Need-returns Inv-loop μ-loop
-returns c = search needs
+returns c = filled-end (c .before .loop .inv) (c .loop-test .left)
 
 pub fill-spec : {M : Type 1} → statement M
 fill-spec =
@@ -59,9 +79,13 @@ fill-spec =
     μ-loop
     loop-holds
     noise-requires
-    rem-dst
-    mul-dst
-    slice-write-dst
+    rem-x
+    noise-requires-2
+    rem-y
+    noise-requires-3
+    add-z
+    new-requires
+    put-point-requires
     add-i
     loop-less
     loop-again

@@ -71,15 +71,14 @@ pub record Checked (w : List ℕ) (cells : ℕ) (table : List ℕ) (i : ℕ) : T
   pub met : (k : ℕ) → k < i → marked table (row-at w k .trial .number) ≡ true
   pub sized : length table ≡ 1024
 
-pub checked-none : (w : List ℕ) (s : Shape) (cells : ℕ) (table : List ℕ) → Headed w → s ≡ read-shape w → cells ≡ box (reference s)
-    → length table ≡ 1024 → Checked w cells table 0
+pub checked-none : (w : List ℕ) (cells : ℕ) (table : List ℕ) → Headed w → cells ≡ box (reference (read-shape w)) → length table ≡ 1024 → Checked w cells table 0
 unfolding sound-rows rows-allowed ordered distinct trials read-rows both
-checked-none w s cells table h shape boxed sized =
+checked-none w cells table h boxed sized =
     let facts : HeaderFacts w = header-facts w h in
     record {
       inside = omega arith;
       room = omega arith;
-      boxed = boxed ∙ ap (λ t. box (reference t)) shape;
+      boxed = boxed;
       stand = refl;
       met = λ k k<0. absurd (let no : ⊥ = omega arith in no);
       sized = sized;

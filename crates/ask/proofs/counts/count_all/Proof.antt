@@ -1,11 +1,9 @@
--- `count_all` meets its contract: three columns are loaded, and the sweep counts them.
-use mathlib.Core.Path.{ap, sym, _∙_}
-use native.Mathlib.Nat.{le-refl}
+-- `count_all` meets its contract: the points are loaded, and the sweep counts them.
+use mathlib.Core.Path.{refl, sym}
 use native.Mathlib.Omega.{arith}
 use lib.Seq.{length-take-le}
-use Rattle.words.specs.Format.{shape-allowed}
 use Rattle.calls.proofs.Known.{known}
-use Rattle.ask.proofs.LoadedPoints.{columns, columns-are-ready, all-counted}
+use Rattle.ask.proofs.LoadedPoints.{loaded, loaded-ready, all-counted}
 use borrow.Author.Needs.{needs}
 use Rattle.ask.proofs.counts.count_all.Statement.{statement}
 use Rattle.ask.proofs.counts.count_all.Tie as tie
@@ -16,51 +14,34 @@ shared-slice-read-load-points c = omega (arith, known (c .before .before .before
 slice-aggregate-load-points : tie.Need-slice-aggregate-load-points
 slice-aggregate-load-points c = search needs
 
-slice-aggregate-load-points-2 : tie.Need-slice-aggregate-load-points-2
-slice-aggregate-load-points-2 c = search needs
-
-slice-aggregate-load-points-3 : tie.Need-slice-aggregate-load-points-3
-slice-aggregate-load-points-3 c = search needs
-
 load-points-requires : tie.Need-load-points-requires
 load-points-requires c κs = search needs
 
-array-share-prefix-xs : tie.Need-array-share-prefix-xs
-array-share-prefix-xs c = search needs
+array-share-prefix-points : tie.Need-array-share-prefix-points
+array-share-prefix-points c = search needs
 
 slice-aggregate-sweep : tie.Need-slice-aggregate-sweep
-slice-aggregate-sweep c = sym (length-take-le _ _ (omega (arith, c .before .before .before .before .load-points .ensures .few)))
-
-array-share-prefix-ys : tie.Need-array-share-prefix-ys
-array-share-prefix-ys c = search needs
-
-slice-aggregate-sweep-2 : tie.Need-slice-aggregate-sweep-2
-slice-aggregate-sweep-2 c = sym (length-take-le _ _ (omega (arith, c .before .before .before .before .before .load-points .ensures .few)))
-
-array-share-prefix-zs : tie.Need-array-share-prefix-zs
-array-share-prefix-zs c = search needs
-
-slice-aggregate-sweep-3 : tie.Need-slice-aggregate-sweep-3
-slice-aggregate-sweep-3 c = sym (length-take-le _ _ (omega (arith, c .before .before .before .before .before .before .load-points .ensures .few)))
-
-shape-of-requires : tie.Need-shape-of-requires
-shape-of-requires c κs = omega (arith, known (c .before .before .before .before .before .before .before .before .before .before .before .before .before .args .w .now) (c .before .before .before .before .before .before .before .before .before .before .before .before .before .pre .0))
+slice-aggregate-sweep c = sym (length-take-le _ _ (omega (arith, c .before .before .load-points .ensures .few)))
 
 reference-of-requires : tie.Need-reference-of-requires
-reference-of-requires c κs = ap shape-allowed (c .shape-of .ensures) ∙ known (c .before .before .before .before .before .before .before .before .before .before .before .before .before .before .args .w .now) (c .before .before .before .before .before .before .before .before .before .before .before .before .before .before .pre .0) .shaped
+reference-of-requires c κs = search needs
+
+slice-aggregate-sweep-2 : tie.Need-slice-aggregate-sweep-2
+slice-aggregate-sweep-2 c = search needs
 
 sweep-requires : tie.Need-sweep-requires
 sweep-requires c κs =
-    columns-are-ready _ (columns _ (c .before .before .before .before .before .before .before .before .before .load-points .ensures) (c .before .before .shape-of .ensures) (c .before .reference-of .ensures))
-    (c .before .before .before .before .before .before .before .before .before .before .before .before .before .before .before .before .pre .0) (le-refl _) (c .before .before .before .before .before .before .before .before .before .before .before .before .before .before .before .before .pre .1)
+    let start = c .before .before .before .before .before .before .before .before .before .before in
+    loaded-ready (loaded (start .pre .0) (c .before .before .before .before .before .load-points .ensures) (c .before .before .reference-of .ensures)) (search needs) (start .pre .1)
 
 same-length : tie.Need-same-length
 same-length c = search needs
 
 returns : tie.Need-returns
 returns c =
-    all-counted _ _ _ (columns _ (c .before .before .before .before .before .before .before .before .before .before .before .before .load-points .ensures) (c .before .before .before .before .before .shape-of .ensures) (c .before .before .before .before .reference-of .ensures))
-    (c .before .before .sweep .ensures .0) (c .before .before .sweep .ensures .1)
+    let swept = c .before .before .before in
+    let start = swept .before .before .before .before .before .before .before .before .before .before .before in
+    all-counted refl (loaded (start .pre .0) (swept .before .before .before .before .before .before .load-points .ensures) (swept .before .before .before .reference-of .ensures)) (swept .sweep .ensures .0) (swept .sweep .ensures .1)
 
 pub count-all-spec : {M : Type 1} → statement M
 count-all-spec =
@@ -68,17 +49,11 @@ count-all-spec =
     (tie.spec
     shared-slice-read-load-points
     slice-aggregate-load-points
-    slice-aggregate-load-points-2
-    slice-aggregate-load-points-3
     load-points-requires
-    array-share-prefix-xs
+    array-share-prefix-points
     slice-aggregate-sweep
-    array-share-prefix-ys
-    slice-aggregate-sweep-2
-    array-share-prefix-zs
-    slice-aggregate-sweep-3
-    shape-of-requires
     reference-of-requires
+    slice-aggregate-sweep-2
     sweep-requires
     same-length
     returns)

@@ -3,7 +3,7 @@ use mathlib.Core.Path.{_≡_, sym, ap, subst, _∙_}
 use native.Mathlib.Nat.{le-refl}
 use native.Mathlib.Omega.{arith}
 use borrow.Author.Tests.{not-true, not-false}
-use Rattle.sweep.specs.Points.{Small}
+use Rattle.hypervolume.specs.Sorted.{Small}
 use Rattle.words.specs.Layout.{read}
 use Rattle.words.specs.Format.{coordinates-allowed}
 use Rattle.words.specs.Places.{as-row}
@@ -11,7 +11,7 @@ use Rattle.calls.specs.Lent.{gain-answer}
 use Rattle.calls.proofs.Known.{known}
 use Rattle.ask.proofs.questions.Asking.{answer-row, answer-value, gain-refused, gain-passes}
 use Rattle.ask.proofs.LoadedPoints.{allowed-small}
-use Rattle.ask.proofs.CountedAmounts.{gain-front}
+use Rattle.ask.proofs.CountedAmounts.{all-gain}
 use borrow.Author.Needs.{needs}
 use Rattle.ask.proofs.questions.gain_in.Statement.{statement}
 use Rattle.ask.proofs.questions.gain_in.Tie as tie
@@ -36,21 +36,33 @@ returns c = c .refused .ensures ∙ answer-row (c .before .before .before .befor
 shared-slice-read-n : tie.Need-shared-slice-read-n
 shared-slice-read-n c = omega (arith, known (c .before .before .before .before .before .args .w .now) (c .before .before .before .before .before .pre))
 
-point-of-requires : tie.Need-point-of-requires
-point-of-requires c κs = allowed-small (c .before .before .before .before .before .args .w .now) (as-row (c .before .before .before .before .before .args .row) .trial) (c .before .before .before .before .before .pre) (six (c .before .before) ∙ not-false _ (c .before .if1 .left))
+new-requires : tie.Need-new-requires
+new-requires c κs =
+    let small = allowed-small (c .before .before .before .before .before .args .w .now) (as-row (c .before .before .before .before .before .args .row) .trial) (c .before .before .before .before .before .pre) (six (c .before .before) ∙ not-false _ (c .before .if1 .left)) in
+    (omega (arith, small 0), omega (arith, small 1), omega (arith, small 2))
 
 slice-aggregate-count-joints : tie.Need-slice-aggregate-count-joints
 slice-aggregate-count-joints c = search needs
 
+slice-aggregate-count-joints-2 : tie.Need-slice-aggregate-count-joints-2
+slice-aggregate-count-joints-2 c = search needs
+
 count-joints-requires : tie.Need-count-joints-requires
-count-joints-requires c κs = ((c .before .before .before .before .before .before .before .pre), le-refl _, omega arith, subst (λ q. Small q) (sym (c .before .point-of .ensures)) (allowed-small (c .before .before .before .before .before .before .before .args .w .now) (as-row (c .before .before .before .before .before .before .before .args .row) .trial) (c .before .before .before .before .before .before .before .pre) (six (c .before .before .before .before) ∙ not-false _ (c .before .before .before .if1 .left))))
+count-joints-requires c κs =
+    let start = c .before .before .before .before .before .before .before .before in
+    (start .pre, le-refl _, search needs, search needs, subst (λ q. Small q) (sym (c .before .before .new .ensures)) (allowed-small (start .args .w .now) (as-row (start .args .row) .trial) (start .pre) (six (c .before .before .before .before .before) ∙ not-false _ (c .before .before .before .before .if1 .left))))
 
 done-requires : tie.Need-done-requires
 done-requires c κs = search needs
 
 returns-2 : tie.Need-returns-2
 unfolding gain-answer
-returns-2 c = c .done .ensures ∙ answer-value (c .before .before .before .before .before .before .before .before .before .before .args .w .now) _ _ _ (c .before .before .before .before .before .before .before .before .before .before .pre) (gain-passes _ _ (six (c .before .before .before .before .before .before .before) ∙ not-false _ (c .before .before .before .before .before .before .if1 .left))) (gain-front (c .before .before .before .before .before .before .before .before .before .before .args .w .now) _ _ _ _ _ (c .before .before .before .before .point-of .ensures) (c .before .before .count-joints .ensures))
+returns-2 c =
+    let counted = c .before .before .before in
+    let start = counted .before .before .before .before .before .before .before .before .before in
+    c .done .ensures
+    ∙ answer-value (start .args .w .now) _ _ _ (start .pre) (gain-passes _ _ (six (counted .before .before .before .before .before .before) ∙ not-false _ (counted .before .before .before .before .before .if1 .left)))
+    (all-gain (as-row (start .args .row) .trial) (counted .before .before .before .new .ensures) (counted .count-joints .ensures))
 
 pub gain-in-spec : {M : Type 1} → statement M
 gain-in-spec =
@@ -61,8 +73,9 @@ gain-in-spec =
     refused-requires
     returns
     shared-slice-read-n
-    point-of-requires
+    new-requires
     slice-aggregate-count-joints
+    slice-aggregate-count-joints-2
     count-joints-requires
     done-requires
     returns-2)

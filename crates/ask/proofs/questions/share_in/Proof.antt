@@ -2,8 +2,7 @@
 use mathlib.Core.Path.{_≡_, ap, _∙_}
 use native.Mathlib.Omega.{arith}
 use Rattle.hypervolume.specs.Cells.{box}
-use Rattle.words.specs.Archive.{reference}
-use Rattle.words.specs.Format.{shape-allowed}
+use Rattle.words.proofs.Passed.{reference-small}
 use Rattle.words.specs.Layout.{read}
 use Rattle.calls.specs.Calls.{box-of}
 use Rattle.calls.proofs.Known.{known}
@@ -14,16 +13,16 @@ use Rattle.ask.proofs.questions.share_in.Tie as tie
 
 boxed : (c : tie.After-box-of) → c .box-of .result ≡ box-of (read (c .before .before .before .before .args .w .now))
 unfolding read
-boxed c = c .box-of .ensures ∙ ap (λ s. box (reference s)) (c .before .shape-of .ensures)
+boxed c = c .box-of .ensures ∙ ap box (c .before .reference-of .ensures)
 
 shared-slice-read-millionths : tie.Need-shared-slice-read-millionths
 shared-slice-read-millionths c = omega (arith, known (c .before .before .args .w .now) (c .before .before .pre))
 
-shape-of-requires : tie.Need-shape-of-requires
-shape-of-requires c κs = omega (arith, known (c .before .before .args .w .now) (c .before .before .pre))
+reference-of-requires : tie.Need-reference-of-requires
+reference-of-requires c κs = c .before .before .pre
 
 box-of-requires : tie.Need-box-of-requires
-box-of-requires c κs = ap shape-allowed (c .shape-of .ensures) ∙ known (c .before .before .before .args .w .now) (c .before .before .before .pre) .shaped
+box-of-requires c κs = reference-small _ _ (known (c .before .before .before .args .w .now) (c .before .before .before .pre) .shaped) (c .reference-of .ensures)
 
 millionths-requires : tie.Need-millionths-requires
 millionths-requires c κs = share-asks (c .before .before .before .before .args .w .now) _ (c .before .before .before .before .pre) (boxed c)
@@ -39,7 +38,7 @@ share-in-spec =
     tie.close
     (tie.spec
     shared-slice-read-millionths
-    shape-of-requires
+    reference-of-requires
     box-of-requires
     millionths-requires
     done-requires

@@ -8,7 +8,8 @@ use borrow.Author.Needs.{needs}
 use denote.Ref.{now}
 use Rattle.text.specs.Lines.{numbers-of}
 use Rattle.card.specs.Card.{line-count, lines, due-of, further, load}
-use Rattle.card.proofs.loading.ReadCard.{Inside, inside, card-missing, first-refused, first-done, Reading, reading-none, reading-more, reading-stop, reading-end, few-lines}
+use Rattle.card.proofs.CardLines.{Inside, inside, few-lines}
+use Rattle.card.proofs.loading.ReadCard.{card-missing, first-refused, first-done, Reading, reading-none, reading-more, reading-stop, reading-end}
 use Rattle.card.proofs.loading.read_card.Statement.{statement}
 use Rattle.card.proofs.loading.read_card.Tie as tie
 

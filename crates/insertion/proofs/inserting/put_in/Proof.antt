@@ -1,57 +1,73 @@
--- `put_in` meets its contract: refused by row 13, or insertion-stored.
-use mathlib.Core.Path.{sym}
+-- `put_in` meets its contract: refused by row 13, or stored.
+use mathlib.Core.Path.{sym, subst}
 use native.Mathlib.Omega.{arith}
 use lib.Seq.{length-take-le}
 use borrow.Author.Needs.{needs}
 use borrow.Author.Tests.{not-true, not-false}
-use Rattle.calls.proofs.Known.{known}
+use Rattle.hypervolume.specs.Sorted.{Small}
+use Rattle.words.proofs.Places.{point-of-trial}
+use Rattle.ask.proofs.LoadedPoints.{allowed-small}
 use Rattle.insertion.proofs.inserting.Admitting.{admitted}
 use Rattle.insertion.proofs.inserting.Storing.{overruns, fits-box, storing}
 use Rattle.calls.proofs.Answers.{row-13-given, row-13-passed}
 use Rattle.insertion.proofs.inserting.put_in.Statement.{statement}
 use Rattle.insertion.proofs.inserting.put_in.Tie as tie
 
-slice-read-n : tie.Need-slice-read-n
-slice-read-n c = omega (arith, known (c .before .before .args .w .now) (c .before .before .pre .0))
+-- The point's coordinates are allowed, so they are small.
+own-small : (s : tie.Start) → Small (s .args .p .at)
+own-small s =
+    subst (λ q. Small q) (point-of-trial (s .args .number) (s .args .p .at) (search needs))
+    (allowed-small (s .args .w .now) _ (s .pre .0) (admitted (s .args .w .now) _ (s .pre .0) (s .pre .1) .coordinates))
 
-slice-aggregate-lowered : tie.Need-slice-aggregate-lowered
-slice-aggregate-lowered c = search needs
+slice-aggregate-judge : tie.Need-slice-aggregate-judge
+slice-aggregate-judge c = search needs
 
-lowered-requires : tie.Need-lowered-requires
-lowered-requires c κs = ((c .before .before .before .before .pre .0), admitted (c .before .before .before .before .args .w .now) _ (c .before .before .before .before .pre .0) (c .before .before .before .before .pre .1) .coordinates, omega arith)
+slice-aggregate-judge-2 : tie.Need-slice-aggregate-judge-2
+slice-aggregate-judge-2 c = search needs
+
+judge-requires : tie.Need-judge-requires
+judge-requires c κs = (c .before .before .before .before .pre .0, own-small (c .before .before .before .before), search needs, search needs)
 
 same-length : tie.Need-same-length
 same-length c = search needs
 
 returns : tie.Need-returns
-returns c = row-13-given _ _ _ (overruns (c .before .before .before .lowered .ensures) (not-true _ (c .if1 .taken)))
+returns c = row-13-given _ _ _ (overruns (c .before .before .before .before .judge .ensures _) (not-true _ (c .if1 .taken)))
 
-array-share-prefix-kept : tie.Need-array-share-prefix-kept
-array-share-prefix-kept c = omega (arith, known (c .before .before .before .before .before .before .before .before .before .args .w .now) (c .before .before .before .before .before .before .before .before .before .pre .0), c .before .before .before .before .lowered .kept)
+array-share-prefix-places : tie.Need-array-share-prefix-places
+array-share-prefix-places c = omega (arith, c .before .before .before .before .before .judge .ensures 0 .few, c .before .before .before .before .before .judge .kept)
 
 slice-aggregate-store : tie.Need-slice-aggregate-store
-slice-aggregate-store c = sym (length-take-le _ _ (omega (arith, known (c .before .before .before .before .before .before .before .before .before .before .args .w .now) (c .before .before .before .before .before .before .before .before .before .before .pre .0), c .before .before .before .before .before .lowered .kept)))
+slice-aggregate-store c = sym (length-take-le _ _ (omega (arith, c .before .before .before .before .before .before .judge .ensures 0 .few, c .before .before .before .before .before .before .judge .kept)))
+
+array-share-prefix-counts : tie.Need-array-share-prefix-counts
+array-share-prefix-counts c = omega (arith, c .before .before .before .before .before .before .judge .ensures 0 .few, c .before .before .before .before .before .before .judge .kept)
+
+slice-aggregate-store-2 : tie.Need-slice-aggregate-store-2
+slice-aggregate-store-2 c = sym (length-take-le _ _ (omega (arith, c .before .before .before .before .before .before .before .judge .ensures 0 .few, c .before .before .before .before .before .before .before .judge .kept)))
 
 store-requires : tie.Need-store-requires
-store-requires c κs = storing (c .before .before .before .before .before .lowered .ensures) (c .before .before .before .before .before .before .before .before .before .before .pre .0) (admitted (c .before .before .before .before .before .before .before .before .before .before .args .w .now) _ (c .before .before .before .before .before .before .before .before .before .before .pre .0) (c .before .before .before .before .before .before .before .before .before .before .pre .1) .free) (not-false _ (c .before .before .if1 .left))
+store-requires c κs = storing (c .before .before .before .before .before .before .before .judge .ensures _) (c .before .before .before .before .before .before .before .before .before .before .before .before .pre .0) (admitted (c .before .before .before .before .before .before .before .before .before .before .before .before .args .w .now) _ (c .before .before .before .before .before .before .before .before .before .before .before .before .pre .0) (c .before .before .before .before .before .before .before .before .before .before .before .before .pre .1) .free) (not-false _ (c .before .before .before .if1 .left))
 
 same-length-2 : tie.Need-same-length-2
 same-length-2 c = search needs
 
 returns-2 : tie.Need-returns-2
-returns-2 c = row-13-passed _ _ _ _ (fits-box (c .before .before .before .before .before .before .before .before .lowered .ensures) (not-false _ (c .before .before .before .before .before .if1 .left))) (c .before .before .store .ensures)
+returns-2 c = row-13-passed _ _ _ _ (fits-box (c .before .before .before .before .before .before .before .before .before .before .judge .ensures _) (not-false _ (c .before .before .before .before .before .before .if1 .left))) (c .before .before .store .ensures)
 
 pub put-in-spec : {M : Type 1} → statement M
 put-in-spec =
     tie.close
     (tie.spec
-    slice-read-n
-    slice-aggregate-lowered
-    lowered-requires
+    slice-aggregate-judge
+    slice-aggregate-judge-2
+    judge-requires
     same-length
     returns
-    array-share-prefix-kept
+    array-share-prefix-places
     slice-aggregate-store
+    array-share-prefix-counts
+    slice-aggregate-store-2
     store-requires
     same-length-2
     returns-2)

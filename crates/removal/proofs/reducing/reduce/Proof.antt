@@ -40,8 +40,8 @@ slice-read-drops c = omega (arith, known (c .before .before .before .before .bef
 sub-drops : tie.Need-sub-drops
 sub-drops c = reducible (c .before .before .before .before .before .before .before .before .before .args .w .now) _ _ (sym (c .before .before .reduce-rows .ensures) ∙ c .before .if2 .left) .above
 
-drop-all-requires : tie.Need-drop-all-requires
-drop-all-requires c κs =
+reduce-by-requires : tie.Need-reduce-by-requires
+reduce-by-requires c κs =
     let able = reducible (c .before .before .before .before .before .before .before .before .before .before .before .args .w .now) _ _ (sym (c .before .before .before .before .reduce-rows .ensures) ∙ c .before .before .before .if2 .left) in
     ((sym (c .before .before .before .before .before .before .before .refusal .ensures) ∙ c .before .before .before .before .before .before .if1 .left), able .counted, omega (arith, able .above), able .room)
 
@@ -57,7 +57,7 @@ same-length-4 c = search needs
 returns-3 : tie.Need-returns-3
 returns-3 c =
     reduce-dropped (c .before .before .before .before .before .before .before .before .before .before .before .before .before .before .before .before .before .args .w .now) _ _ _ _ _ _ (sym (c .before .before .before .before .before .before .before .before .before .before .before .before .before .refusal .ensures) ∙ c .before .before .before .before .before .before .before .before .before .before .before .before .if1 .left)
-    (sym (c .before .before .before .before .before .before .before .before .before .before .reduce-rows .ensures) ∙ c .before .before .before .before .before .before .before .before .before .if2 .left) refl (c .before .before .before .before .before .drop-all .ensures) (c .done .ensures)
+    (sym (c .before .before .before .before .before .before .before .before .before .before .reduce-rows .ensures) ∙ c .before .before .before .before .before .before .before .before .before .if2 .left) refl (c .before .before .before .before .before .reduce-by .ensures) (c .done .ensures)
 
 pub reduce-spec : {M : Type 1} → statement M
 reduce-spec =
@@ -73,7 +73,7 @@ reduce-spec =
     returns-2
     slice-read-drops
     sub-drops
-    drop-all-requires
+    reduce-by-requires
     done-requires
     same-length-3
     same-length-4

@@ -1,11 +1,29 @@
 -- `reports::reports::put_line` meets its contract, column by column.
 use native.Mathlib.Omega.{arith}
 use lib.ListN.{length-set}
-use borrow.Author.Needs.{needs}
 use denote.Ref.{now}
 use Rattle.reports.proofs.reports.Reporting.{put-line}
+use borrow.Author.Needs.{needs}
 use Rattle.reports.proofs.reports.put_line.Statement.{statement}
 use Rattle.reports.proofs.reports.put_line.Tie as tie
+
+array-read-x : tie.Need-array-read-x
+array-read-x c = search needs
+
+cast-x : tie.Need-cast-x
+cast-x c = search needs
+
+array-read-y : tie.Need-array-read-y
+array-read-y c = search needs
+
+cast-y : tie.Need-cast-y
+cast-y c = search needs
+
+array-read-z : tie.Need-array-read-z
+array-read-z c = search needs
+
+cast-z : tie.Need-cast-z
+cast-z c = search needs
 
 put-number-requires : tie.Need-put-number-requires
 put-number-requires c κs = search needs
@@ -45,18 +63,20 @@ same-length c = simp length-set (omega arith)
 
 returns : tie.Need-returns
 returns c =
-    let s = c .before .before .before .before .before .before .before .before .before .before .before .before .before .before .before .before .before .before .before .before .before in
-    put-line (now (s .args .out)) (s .args .at) (s .args .a) (s .args .b) (s .args .c) (s .args .d) (s .args .e) (s .pre) (omega arith)
-    (c .before .before .before .before .before .before .before .before .before .before .before .before .before .before .before .before .before .before .put-number .ensures)
-    (c .before .before .before .before .before .before .before .before .before .before .before .before .before .before .put-number2 .ensures)
-    (c .before .before .before .before .before .before .before .before .before .before .put-number3 .ensures)
-    (c .before .before .before .before .before .before .put-number4 .ensures)
+    let s = c .before .before .before .before .before .before .before .before .before .before .before .before .before .before .before .before .before .before .before .before .before .before in
+    put-line (now (s .args .out)) (s .args .at) _ _ _ _ _ (s .pre) (omega arith) (c .before .before .before .before .before .before .before .before .before .before .before .before .before .before .before .before .before .before .put-number .ensures) (c .before .before .before .before .before .before .before .before .before .before .before .before .before .before .put-number2 .ensures) (c .before .before .before .before .before .before .before .before .before .before .put-number3 .ensures) (c .before .before .before .before .before .before .put-number4 .ensures)
     (c .before .before .put-number5 .ensures)
 
 pub put-line-spec : {M : Type 1} → statement M
 put-line-spec =
     tie.close
     (tie.spec
+    array-read-x
+    cast-x
+    array-read-y
+    cast-y
+    array-read-z
+    cast-z
     put-number-requires
     add-put-number
     put-number-requires-2

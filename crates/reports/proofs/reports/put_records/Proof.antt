@@ -1,6 +1,8 @@
 -- `reports::reports::put_records` meets its contract. The loop's invariant: the lines of the first i records are written.
 use Prim.Native.Nat.{_-_}
+use native.Mathlib.Omega.{arith}
 use borrow.Author.Needs.{needs}
+use Rattle.calls.proofs.Known.{known}
 use Rattle.reports.proofs.reports.Reporting.{Listing, listing-none, listing-more, listing-end}
 use Rattle.reports.proofs.reports.put_records.Statement.{statement}
 use Rattle.reports.proofs.reports.put_records.Tie as tie
@@ -12,13 +14,13 @@ abbrev μ-loop : tie.MeasureT-loop
 μ-loop w out₀ n i₀ out i = n - i
 
 shared-slice-read-n : tie.Need-shared-slice-read-n Inv-loop μ-loop
-shared-slice-read-n c = search needs
+shared-slice-read-n c = omega (arith, known _ (c .before .before .before .pre .passes))
 
 loop-holds : tie.Need-loop-holds Inv-loop μ-loop
 loop-holds c = listing-none _ _ (c .before .before .before .pre)
 
-row-at-requires : tie.Need-row-at-requires Inv-loop μ-loop
-row-at-requires c κs = search needs
+record-at-requires : tie.Need-record-at-requires Inv-loop μ-loop
+record-at-requires c κs = (c .before .loop .inv .asked .passes, search needs)
 
 add-put-line : tie.Need-add-put-line Inv-loop μ-loop
 add-put-line c = search needs
@@ -37,7 +39,7 @@ loop-less c = search needs
 
 loop-again : tie.Need-loop-again Inv-loop μ-loop
 loop-again c =
-    listing-more (c .before .before .before .before .before .before .loop .inv) (c .before .before .before .before .before .loop-test .taken) (c .before .before .before .before .row-at .ensures) (c .before .before .put-line .kept .0)
+    listing-more (c .before .before .before .before .before .before .loop .inv) (c .before .before .before .before .before .loop-test .taken) (c .before .before .before .before .record-at .ensures) (c .before .before .put-line .kept .0)
     (c .before .before .put-line .ensures)
 
 same-length : tie.Need-same-length Inv-loop μ-loop
@@ -54,7 +56,7 @@ put-records-spec =
     μ-loop
     shared-slice-read-n
     loop-holds
-    row-at-requires
+    record-at-requires
     add-put-line
     mul-put-line
     put-line-requires

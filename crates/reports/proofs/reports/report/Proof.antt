@@ -38,11 +38,11 @@ returns-2 c =
     let told = told-short _ _ (passing (c .before .before .before)) (c .before .if2 .taken) in
     (c .refused2 .ensures ∙ told .0, told .1)
 
-shape-of-requires : tie.Need-shape-of-requires
-shape-of-requires c κs = omega (arith, passing (c .before .before))
-
 shared-slice-read-put-line : tie.Need-shared-slice-read-put-line
-shared-slice-read-put-line c = omega (arith, passing (c .before .before .before .before .before))
+shared-slice-read-put-line c = omega (arith, passing (c .before .before .before .before))
+
+reference-of-requires : tie.Need-reference-of-requires
+reference-of-requires c κs = search needs
 
 shared-slice-read-put-line-2 : tie.Need-shared-slice-read-put-line-2
 shared-slice-read-put-line-2 c = omega (arith, passing (c .before .before .before .before .before .before))
@@ -51,7 +51,7 @@ put-line-requires : tie.Need-put-line-requires
 put-line-requires c κs = search needs
 
 put-records-requires : tie.Need-put-records-requires
-put-records-requires c κs = record { held = passing (c .before .before .before .before .before .before .before .before .before .before) .held; room = omega arith }
+put-records-requires c κs = record { passes = passing (c .before .before .before .before .before .before .before .before .before .before) .passes; room = omega arith }
 
 done-requires : tie.Need-done-requires
 done-requires c κs = search needs
@@ -61,7 +61,7 @@ same-length c = search needs
 
 returns-3 : tie.Need-returns-3
 returns-3 c =
-    let told = told-report _ _ (passing (c .before .before .before .before .before .before .before .before .before .before .before .before .before .before)) (c .before .before .before .before .before .before .before .before .before .before .before .before .if2 .left) (c .before .before .before .before .before .before .before .before .before .before .before .shape-of .ensures) (c .before .before .before .before .before .before .before .put-line .ensures)
+    let told = told-report _ _ _ (passing (c .before .before .before .before .before .before .before .before .before .before .before .before .before .before)) (c .before .before .before .before .before .before .before .before .before .before .before .before .if2 .left) (c .before .before .before .before .before .before .before .before .before .reference-of .ensures) (c .before .before .before .before .before .before .before .put-line .ensures)
     (c .before .before .before .put-records .ensures) in
     (c .done .ensures ∙ told .0, told .1)
 
@@ -77,8 +77,8 @@ report-spec =
     mul-bytes
     refused-requires-2
     returns-2
-    shape-of-requires
     shared-slice-read-put-line
+    reference-of-requires
     shared-slice-read-put-line-2
     put-line-requires
     put-records-requires

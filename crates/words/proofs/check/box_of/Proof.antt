@@ -1,35 +1,28 @@
--- `box_of` meets its contract: within the allowed ranges no product overflows.
-use Prim.Native.Nat.{_*_, _^_, _<_}
-use mathlib.Core.Path.{_≡_, sym, subst}
-use mathlib.Core.Bool.{true}
-use native.Mathlib.Nat.{lt-of-le-of-lt, mul-le-mul, mul-one}
-use lib.Dec.{lit<}
-use Rattle.hypervolume.specs.Cells.{box}
-use Rattle.words.specs.Archive.{Shape, reference}
-use Rattle.words.specs.Format.{shape-allowed}
-use Rattle.words.specs.Places.{as-shape}
-use Rattle.words.proofs.Passed.{shape-bounds, box-bound}
+-- `box_of` meets its contract: the edge product of the origin is the box.
+use Prim.Native.Nat.{ℕ, zero, suc, _*_}
+use mathlib.Core.Path.{_≡_, refl, ap, ap₂, _∙_}
+use mathlib.Core.List.{List, _∷_, []}
+use native.Mathlib.Nat.{sub-zero}
+use lib.ListN.{replicate}
+use borrow.Author.Needs.{needs}
+use Rattle.hypervolume.specs.Cells.{box, edges}
 use Rattle.words.proofs.check.box_of.Statement.{statement}
 use Rattle.words.proofs.check.box_of.Tie as tie
 
-box-product : (s : Shape) → s .rx * (s .ry * s .rz) ≡ box (reference s)
-unfolding box
-box-product s = rw (mul-one (s .rz))
+edges-origin : (r : List ℕ) (n : ℕ) → edges r (replicate n 0) ≡ box r
+unfolding edges box
+edges-origin [] n = refl
+edges-origin (r ∷ rs) zero = ap (λ k. r * k) (edges-origin rs 0)
+edges-origin (r ∷ rs) (suc n) = ap₂ _*_ (sub-zero r) (edges-origin rs n)
 
-product-fits : (s : Shape) → shape-allowed s ≡ true → s .rx * (s .ry * s .rz) < 2 ^ 64
-product-fits s e =
-    subst (λ n. n < 2 ^ 64) (sym (box-product s)) (lt-of-le-of-lt (box-bound s (shape-bounds s e)) (lit< tt))
+new-requires : tie.Need-new-requires
+new-requires c κs = search needs
 
-mul-result : tie.Need-mul-result
-mul-result c =
-    let b = shape-bounds _ (c .before .pre) in
-    record { fits = lt-of-le-of-lt (mul-le-mul (b .reference-high 1) (b .reference-high 2)) (lit< tt) }
-
-mul-result-2 : tie.Need-mul-result-2
-mul-result-2 c = record { fits = product-fits _ (c .before .before .pre) }
+edges-requires : tie.Need-edges-requires
+edges-requires c κs = search needs
 
 returns : tie.Need-returns
-returns c = box-product (as-shape (c .before .before .args .s))
+returns c = c .edges .ensures ∙ ap (edges _) (c .before .new .ensures) ∙ edges-origin _ 3
 
 pub box-of-spec : {M : Type 1} → statement M
-box-of-spec = tie.close (tie.spec mul-result mul-result-2 returns)
+box-of-spec = tie.close (tie.spec new-requires edges-requires returns)

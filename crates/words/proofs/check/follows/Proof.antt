@@ -6,7 +6,8 @@ use mathlib.Core.List.{List}
 use native.Mathlib.Omega.{arith}
 use borrow.Author.Needs.{needs}
 use Rattle.words.specs.Archive.{Row, before}
-use Rattle.words.specs.Places.{row-at, follows}
+use Rattle.words.specs.Places.{as-row, row-at, follows}
+use Rattle.words.proofs.SoundRows.{before-keys}
 use Rattle.words.proofs.check.follows.Statement.{statement}
 use Rattle.words.proofs.check.follows.Tie as tie
 
@@ -32,13 +33,19 @@ row-at-requires c κs = search needs
 row-at-requires-2 : tie.Need-row-at-requires-2
 row-at-requires-2 c κs = search needs
 
-before-requires : tie.Need-before-requires
-before-requires c κs = search needs
+key-requires : tie.Need-key-requires
+key-requires c κs = search needs
+
+key-requires-2 : tie.Need-key-requires-2
+key-requires-2 c κs = search needs
+
+ascends-requires : tie.Need-ascends-requires
+ascends-requires c κs = search needs
 
 returns-2 : tie.Need-returns-2
-returns-2 c = follows-behind _ _ _ _ _ (c .before .before .before .if1 .left) (c .before .before .row-at .ensures) (c .before .row-at2 .ensures) (c .before2 .ensures)
+returns-2 c = follows-behind _ _ (as-row (c .before .before .before .before .row-at .result)) (as-row (c .before .before .row-at2 .result)) _ (c .before .before .before .before .before .if1 .left) (c .before .before .before .before .row-at .ensures) (c .before .before .row-at2 .ensures) (before-keys _ _ (c .before .before .before .key .ensures) (c .before .key2 .ensures) (c .ascends .ensures))
 
 pub follows-spec : {M : Type 1} → statement M
 follows-spec =
     tie.close
-    (tie.spec returns sub-row-at row-at-requires row-at-requires-2 before-requires returns-2)
+    (tie.spec returns sub-row-at row-at-requires key-requires row-at-requires-2 key-requires-2 ascends-requires returns-2)

@@ -4,6 +4,7 @@ use borrow.Author.Needs.{needs}
 use borrow.Author.Tests.{not-false, not-true}
 use Rattle.slices.specs.Choices.{both}
 use Rattle.words.specs.Format.{header-allowed}
+use Rattle.words.proofs.Passed.{reference-small}
 use Rattle.words.proofs.check.header_allowed.Statement.{statement}
 use Rattle.words.proofs.check.header_allowed.Tie as tie
 
@@ -17,8 +18,11 @@ returns : tie.Need-returns
 unfolding header-allowed both
 returns c = rw (← c .before .before .shape-of .ensures, sym (c .before .shape-allowed .ensures) ∙ not-true _ (c .if1 .taken))
 
+reference-point-requires : tie.Need-reference-point-requires
+reference-point-requires c κs = sym (c .before .shape-allowed .ensures) ∙ not-false _ (c .if1 .left)
+
 box-of-requires : tie.Need-box-of-requires
-box-of-requires c κs = sym (c .before .shape-allowed .ensures) ∙ not-false _ (c .if1 .left)
+box-of-requires c κs = reference-small _ _ (sym (c .before .before .shape-allowed .ensures) ∙ not-false _ (c .before .if1 .left)) (c .reference-point .ensures)
 
 shared-slice-read-both : tie.Need-shared-slice-read-both
 shared-slice-read-both c = search needs
@@ -48,7 +52,7 @@ returns-2 : tie.Need-returns-2
 unfolding header-allowed both
 returns-2 c =
     let d = c .before .before .before .before .before .before .before .before in
-    rw (← d .before .before .before .shape-of .ensures, sym (d .before .before .shape-allowed .ensures) ∙ not-false _ (d .before .if1 .left), ← d .box-of .ensures)
+    rw (← d .before .before .before .before .shape-of .ensures, sym (d .before .before .before .shape-allowed .ensures) ∙ not-false _ (d .before .before .if1 .left), ← d .before .reference-point .ensures, ← d .box-of .ensures)
     cc
 
 pub header-allowed-spec : {M : Type 1} → statement M
@@ -58,6 +62,7 @@ header-allowed-spec =
     shape-of-requires
     shape-allowed-requires
     returns
+    reference-point-requires
     box-of-requires
     shared-slice-read-both
     shared-slice-read-both-2

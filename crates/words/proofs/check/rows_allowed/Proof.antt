@@ -3,8 +3,10 @@
 use Prim.Native.Nat.{_-_}
 use mathlib.Core.Path.{_∙_, ap, refl, sym}
 use native.Mathlib.Omega.{arith}
+use Rattle.hypervolume.specs.Cells.{box}
+use Rattle.words.specs.Archive.{reference}
 use Rattle.words.specs.Format.{shape-allowed}
-use Rattle.words.proofs.Passed.{header-facts}
+use Rattle.words.proofs.Passed.{header-facts, reference-small}
 use Rattle.words.proofs.check.RowsAllowed.{Checked, checked-none, checked-more, checked-place, checked-stop, checked-end}
 use Rattle.words.proofs.check.rows_allowed.Statement.{statement}
 use Rattle.words.proofs.check.rows_allowed.Tie as tie
@@ -18,14 +20,17 @@ abbrev μ-loop : tie.MeasureT-loop
 shape-of-requires : tie.Need-shape-of-requires Inv-loop μ-loop
 shape-of-requires c κs = let facts = header-facts _ (c .before .pre) in omega arith
 
+reference-point-requires : tie.Need-reference-point-requires Inv-loop μ-loop
+reference-point-requires c κs = ap shape-allowed (c .shape-of .ensures) ∙ header-facts _ (c .before .before .pre) .shaped
+
 box-of-requires : tie.Need-box-of-requires Inv-loop μ-loop
-box-of-requires c κs = ap shape-allowed (c .shape-of .ensures) ∙ header-facts _ (c .before .before .pre) .shaped
+box-of-requires c κs = reference-small _ _ (header-facts _ (c .before .before .before .pre) .shaped) (c .reference-point .ensures ∙ ap reference (c .before .shape-of .ensures))
 
 shared-slice-read-n : tie.Need-shared-slice-read-n Inv-loop μ-loop
-shared-slice-read-n c = let facts = header-facts _ (c .before .before .before .before .pre) in omega arith
+shared-slice-read-n c = let facts = header-facts _ (c .before .before .before .before .before .pre) in omega arith
 
 loop-holds : tie.Need-loop-holds Inv-loop μ-loop
-loop-holds c = checked-none _ _ _ _ (c .before .before .before .before .pre) (c .before .before .shape-of .ensures) (c .before .box-of .ensures) refl
+loop-holds c = checked-none _ _ _ (c .before .before .before .before .before .pre) (c .before .box-of .ensures ∙ ap box (c .before .before .reference-point .ensures ∙ ap reference (c .before .before .before .shape-of .ensures))) refl
 
 slice-aggregate-mark : tie.Need-slice-aggregate-mark Inv-loop μ-loop
 slice-aggregate-mark c = sym (c .before .before .loop .inv .sized)
@@ -70,6 +75,7 @@ rows-allowed-spec =
     Inv-loop
     μ-loop
     shape-of-requires
+    reference-point-requires
     box-of-requires
     shared-slice-read-n
     loop-holds

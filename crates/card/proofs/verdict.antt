@@ -1,0 +1,3 @@
+-- What the proofs of `judge` and of what it calls use.
+mod FurtherLines
+mod FirstLine

@@ -1,0 +1,92 @@
+-- The points of a list of records: which they are, and that those of a sound archive's records, or of all of them but
+-- one, are as the counting takes them.
+use Prim.Native.Nat.{ℕ, zero, suc, _≤_, _<_, zero-le}
+use mathlib.Core.Path.{_≡_, refl, ap}
+use mathlib.Core.Bool.{true}
+use mathlib.Core.List.{List, _∷_, _++_, []}
+use native.Mathlib.Omega.{arith}
+use lib.ListN.{length, getD}
+use Rattle.slices.proofs.Choices.{both-true}
+use Rattle.hypervolume.specs.Sorted.{Sorted}
+use Rattle.words.specs.Archive.{Trial, Row, Shape, Archive, point, trials, points, before}
+use Rattle.words.specs.Layout.{read, word}
+use Rattle.words.specs.Format.{archive-rows, row-allowed, rows-allowed, ordered}
+use Rattle.words.specs.Places.{rows-before}
+use Rattle.words.proofs.Passed.{Sound, ShapeBounds, row-bounds, shape-bounds, coordinates-small}
+use Rattle.calls.proofs.Known.{known}
+use Rattle.calls.proofs.Order.{Ascent, lower, level, ascent}
+use Rattle.records.specs.Columns.{leave-out}
+use Rattle.records.proofs.LeaveOut.{left-allowed, left-ordered, left-fewer}
+use Rattle.records.proofs.RowAt.{blank}
+
+pub points-append : (rows more : List Row) → points (trials (rows ++ more)) ≡ points (trials rows) ++ points (trials more)
+unfolding points trials
+points-append [] more = refl
+points-append (r ∷ rows) more = ap (λ l. point (r .trial) ∷ l) (points-append rows more)
+
+pub length-points : (rows : List Row) → length (points (trials rows)) ≡ length rows
+unfolding points trials
+length-points [] = refl
+length-points (r ∷ rows) = ap suc (length-points rows)
+
+pub points-at : (rows : List Row) (i : ℕ) (d : Row) → i < length rows → getD (points (trials rows)) i [] ≡ point (getD rows i d .trial)
+unfolding points trials
+points-at [] i d l = absurd (let no′ : ⊥ = omega arith in no′)
+points-at (r ∷ rows) zero d l = refl
+points-at (r ∷ rows) (suc i) d l = points-at rows i d (omega arith)
+
+-- No coordinate of allowed records is above 1,048,576.
+points-small : (s : Shape) (rows : List Row) → ShapeBounds s → rows-allowed s rows ≡ true → (k axis : ℕ) → getD (getD (points (trials rows)) k []) axis 0 ≤ 1048576
+unfolding points trials rows-allowed
+points-small s [] h b k axis = zero-le
+points-small s (r ∷ rows) h b zero axis =
+    coordinates-small s (r .trial) h (row-bounds s r (both-true (row-allowed s r) (rows-allowed s rows) b .0) .coordinates) axis
+points-small s (r ∷ rows) h b (suc k) axis = points-small s rows h (both-true (row-allowed s r) (rows-allowed s rows) b .1) k axis
+
+-- Trials in the archive's order ascend in z.
+before-z : (t u : Trial) → before t u ≡ true → t .z ≤ u .z
+unfolding before
+before-z t u e = go (ascent (t .z) (u .z) _ _ e)
+  where
+    go : Ascent (t .z) (u .z) (t .y ∷ t .x ∷ t .number ∷ []) (u .y ∷ u .x ∷ u .number ∷ []) → t .z ≤ u .z
+    go (lower l) = omega arith
+    go (level e k) = omega arith
+
+points-rising : (rows : List Row) → ordered (trials rows) ≡ true → (k : ℕ) → suc k < length rows
+    → getD (getD (points (trials rows)) k []) 2 0 ≤ getD (getD (points (trials rows)) (suc k) []) 2 0
+unfolding points trials ordered
+points-rising [] o k l = absurd (let no′ : ⊥ = omega arith in no′)
+points-rising (r ∷ []) o k l = absurd (let no′ : ⊥ = omega arith in no′)
+points-rising (r ∷ s ∷ rows) o zero l = before-z (r .trial) (s .trial) (both-true (before (r .trial) (s .trial)) (ordered (trials (s ∷ rows))) o .0)
+points-rising (r ∷ s ∷ rows) o (suc k) l =
+    points-rising (s ∷ rows) (both-true (before (r .trial) (s .trial)) (ordered (trials (s ∷ rows))) o .1) k (omega arith)
+
+-- The points of at most 512 records that are allowed and in order.
+pub points-sorted : (s : Shape) (rows : List Row) → ShapeBounds s → length rows ≤ 512 → rows-allowed s rows ≡ true → ordered (trials rows) ≡ true → Sorted (points (trials rows))
+points-sorted s rows h few allowed rising =
+    let size : length (points (trials rows)) ≡ length rows = length-points rows in
+    record {
+      few = omega arith;
+      axes = λ k l. ap length (points-at rows k blank (let m : k < length rows = omega arith in m));
+      small = points-small s rows h allowed;
+      rising = λ k l. points-rising rows rising k (omega arith);
+    }
+
+pub sound-sorted : (a : Archive) → Sound a → Sorted (points (trials (a .rows)))
+sound-sorted a h =
+    let bounds = shape-bounds (a .shape) (h .shaped) in
+    points-sorted (a .shape) (a .rows) bounds (omega (arith, h .held-within, bounds .capacity-high)) (h .rows-fit) (h .in-order)
+
+-- All records but one.
+pub left-sorted : (a : Archive) (k : ℕ) → Sound a → Sorted (points (trials (leave-out k (a .rows))))
+left-sorted a k h =
+    let bounds = shape-bounds (a .shape) (h .shaped) in
+    points-sorted (a .shape) (leave-out k (a .rows)) bounds
+    (omega (arith, left-fewer (a .rows) k, h .held-within, bounds .capacity-high))
+    (left-allowed (a .shape) (a .rows) k (h .rows-fit))
+    (left-ordered (a .rows) k (h .in-order) (h .apart))
+
+-- What is loaded from words that rows 1 to 3 let pass.
+pub loaded-sorted : (w : List ℕ) (k : ℕ) → archive-rows w 0 ≡ 0 → Sorted (points (trials (leave-out k (rows-before w (word w 0)))))
+unfolding read
+loaded-sorted w k p = left-sorted (read w) k (known w p .sound)

@@ -1,0 +1,4 @@
+-- Laws of a drop made on columns.
+pub mod Noting
+pub mod Recounts
+pub mod Made
