@@ -10,7 +10,7 @@ ghost use lib.ListN.{length};
 fn reduce_into(w: &mut [u64], keep: u64, log: &mut [u64], n: usize) -> Answer
     requires { ⌜ n ≤ length (now log) ⌝ }
 {
-    removal::reduce(w, keep, &mut log[0..n])
+    reduction::reduce(w, keep, &mut log[0..n])
 }
 
 // A reduction into a log of up to 15 words, which a refusal has to leave as it was.

@@ -17,7 +17,8 @@ pub struct Updated {
 // The gain of u over the points, and its joint contribution with each: the first counts, for the points at the first
 // places. A trial shares with u just what its upper corner with u dominates; of the edge product of u the gain is what
 // no corner dominates. Most corners lie beyond a limit, where two others dominate all that they do: these change no
-// count and have none, so only the rest is swept. What the caller lends may hold anything.
+// count and have none, so only the rest is swept. Where two points are at most u on all axes, u changes no count at all.
+// What the caller lends may hold anything.
 pub fn update(
     points: &[[u32; 3]],
     u: Point,
@@ -32,6 +33,9 @@ pub fn update(
     ensures joints { λ r. ⌜ Sparse (length (now (points .entry))) (joints (reference .at) (now (points .entry)) (u .at)) (now (places .exit)) (now (counts .exit)) (r .moved) ⌝ }
 {
     let limit = limits::limits(points, u);
+    if limits::covered(u, limit) {
+        return Updated { gain: 0, moved: 0 };
+    }
     let moved = limits::collect(points, u, limit, corners, places);
     let covered = sweep::sweep(&corners[..moved], reference, line, counts);
     Updated {

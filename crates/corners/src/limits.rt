@@ -5,8 +5,9 @@ use hypervolume::larger;
 use hypervolume::point_at;
 use hypervolume::put_point;
 ghost use mathlib.Core.Path.{_≡_};
+ghost use mathlib.Core.Bool.{true};
 ghost use Prim.Native.Nat.{_≤_, _<_, min};
-ghost use lib.ListN.{length};
+ghost use lib.ListN.{length, getD};
 ghost use Rattle.corners.specs.Limits.{offer, Offered, Limits, Collecting, Collected};
 
 // The two least offers on each axis.
@@ -74,7 +75,19 @@ fn seek(points: &[[u32; 3]], from: usize, u: Point, limit: Point) -> usize
     i
 }
 
-// The limit on each axis: the second least coordinate of the corners that equal u on all others.
+// Whether the limit on the first axis is u's own coordinate: then two of the points are at most u on all axes. (No point of a
+// coordinate of 1,048,576 is covered so, since there nothing limits.)
+pub fn covered(u: Point, limit: Point) -> bool
+    ensures { λ r. ⌜ (r ≡ true → (getD (limit .at) 0 0 ≡ getD (u .at) 0 0) × (getD (u .at) 0 0 < 1048576)) ⌝ }
+{
+    if limit.at[0] == u.at[0] {
+        return u.at[0] < 1048576;
+    }
+    false
+}
+
+// The limit on each axis: the second least coordinate of the corners that equal u on all others. Where two points are at most u
+// on all axes, these are limits enough.
 pub fn limits(points: &[[u32; 3]], u: Point) -> Point
     ensures { λ r. ⌜ Limits (now (points .entry)) (u .at) (r .at) ⌝ }
 {
@@ -94,6 +107,9 @@ pub fn limits(points: &[[u32; 3]], u: Point) -> Point
         offers = offers.with(point_at(points, next), u);
         let second = offers.second;
         limit = u.join(Point { at: second });
+        if covered(u, limit) {
+            return limit;
+        }
         i = next + 1;
     }
     limit

@@ -131,7 +131,7 @@ fn drops(w: &mut [u64], number: u64, due: u64) -> bool {
     if count == 0 {
         return number == 0;
     }
-    let a = removal::reduce(w, count - 1, &mut log);
+    let a = reduction::reduce(w, count - 1, &mut log);
     says(a, 0, 1) && testing::same(&log, &[number, due])
 }
 

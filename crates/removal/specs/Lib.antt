@@ -1,3 +1,2 @@
--- For the contracts of the steps of a removal and of a reduction; no exported contract cites them.
+-- For the contracts of the steps of a removal; no exported contract cites it.
 pub mod Removing
-pub mod Columns

@@ -1,8 +1,4 @@
-// Remove and reduce: the calls by which trials leave an archive.
-mod columns;
-mod dropping;
-mod reducing;
+// Remove: a trial leaves an archive.
 mod removing;
 
-pub use reducing::reduce;
 pub use removing::remove;

@@ -59,7 +59,7 @@ fn store(w: &mut [u64], k: usize, loss: u64, places: &[u16], counts: &[u64])
 }
 
 // Row 13, or the removal of the record at place k.
-pub fn take_out(w: &mut [u64], k: usize) -> u64
+fn take_out(w: &mut [u64], k: usize) -> u64
     requires { ⌜ (archive-rows (now w) 0 ≡ 0) × (k < word (now w) 0) ⌝ }
     ensures answer { λ r. ⌜ r ≡ guard (remove-overruns (read (now (w .entry))) (number-at (now (w .entry)) k)) 13 0 ⌝ }
     ensures words { λ r. ⌜ now (w .exit) ≡ pick (remove-overruns (read (now (w .entry))) (number-at (now (w .entry)) k)) (now (w .entry)) (layout (removed (read (now (w .entry))) (number-at (now (w .entry)) k)) ++ behind (now (w .entry))) ⌝ }

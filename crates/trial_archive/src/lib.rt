@@ -41,7 +41,7 @@ pub extern "C" fn ta_least(words: &[u64]) -> LeastAnswer
 pub extern "C" fn ta_reduce(words: &mut [u64], k: u64, log: &mut [u64]) -> Answer
     ensures { λ r. ⌜ MeetsOutcome (reduce (now (words .entry)) k (now (log .entry))) r (now (words .exit)) (now (log .exit)) ⌝ }
 {
-    removal::reduce(words, k, log)
+    reduction::reduce(words, k, log)
 }
 
 #[no_mangle]

@@ -1,5 +1,5 @@
 -- `limits` meets its contract. The invariant: on each axis the two least offers of the first i points, and their limits.
-use Prim.Native.Nat.{ℕ, _-_, _≤_, _<_}
+use Prim.Native.Nat.{ℕ, _+_, _-_, _≤_, _<_}
 use mathlib.Core.Path.{_≡_}
 use native.Mathlib.Omega.{arith}
 use lib.ListN.{length}
@@ -38,23 +38,33 @@ with-requires c κs = search needs
 join-requires-2 : tie.Need-join-requires-2 Inv-loop μ-loop
 join-requires-2 c κs = search needs
 
-add-i : tie.Need-add-i Inv-loop μ-loop
-add-i c = omega (arith, inside (c .before .before .before .before .before .seek .ensures .1) (c .before .before .before .before .if1 .left))
-
-loop-less : tie.Need-loop-less Inv-loop μ-loop
-loop-less c = omega (arith, c .before .before .before .before .before .seek .ensures .0, inside (c .before .before .before .before .before .seek .ensures .1) (c .before .before .before .before .if1 .left))
-
 three : (c : tie.After-second Inv-loop μ-loop) → length (c .before .with .result .second) ≡ 3
 three c = search needs
 
-loop-again : tie.Need-loop-again Inv-loop μ-loop
-loop-again c =
+-- the point found is offered
+offered : (c : tie.After-join2 Inv-loop μ-loop) → Bounding (c .before .before .before .before .before .before .before .before .before .args .points .now) (c .before .before .before .before .before .before .before .before .before .args .u .at) (c .before .before .with .result .least) (c .before .before .with .result .second) (c .join2 .result .at) (c .before .before .before .before .before .seek .result + 1)
+offered c =
     let sought = c .before .before .before .before .before in
     bounding-more (bounding-past _ _ (sought .before .before .loop .inv) (sought .seek .ensures .0) (sought .seek .ensures .1)) (inside (sought .seek .ensures .1) (c .before .before .before .before .if1 .left))
     (c .before .before .before .point-at .ensures) (c .before .before .with .ensures) (three (c .before)) (c .join2 .ensures)
 
+covered-requires : tie.Need-covered-requires Inv-loop μ-loop
+covered-requires c κs = search needs
+
 returns-2 : tie.Need-returns-2 Inv-loop μ-loop
-returns-2 c = bounding-end (c .before .loop .inv)
+returns-2 c = bounding-end (offered (c .before .before))
+
+add-i : tie.Need-add-i Inv-loop μ-loop
+add-i c = omega (arith, inside (c .before .before .before .before .before .before .before .seek .ensures .1) (c .before .before .before .before .before .before .if1 .left))
+
+loop-less : tie.Need-loop-less Inv-loop μ-loop
+loop-less c = omega (arith, c .before .before .before .before .before .before .before .seek .ensures .0, inside (c .before .before .before .before .before .before .before .seek .ensures .1) (c .before .before .before .before .before .before .if1 .left))
+
+loop-again : tie.Need-loop-again Inv-loop μ-loop
+loop-again c = offered (c .before .before)
+
+returns-3 : tie.Need-returns-3 Inv-loop μ-loop
+returns-3 c = bounding-end (c .before .loop .inv)
 
 pub limits-spec : {M : Type 1} → statement M
 limits-spec =
@@ -69,7 +79,9 @@ limits-spec =
     point-at-requires
     with-requires
     join-requires-2
+    covered-requires
+    returns-2
     add-i
     loop-less
     loop-again
-    returns-2)
+    returns-3)
