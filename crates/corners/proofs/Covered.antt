@@ -14,24 +14,20 @@ use Rattle.slices.proofs.Choices.{both-true, both-intro, both-comm}
 use Rattle.hypervolume.specs.Cells.{holds, dominates}
 use Rattle.hypervolume.specs.Counts.{cover, gain, joint, joints}
 use Rattle.hypervolume.specs.Sorted.{Sorted}
+use Rattle.hypervolume.proofs.Tests.{holds-implied}
 use Rattle.hypervolume.proofs.Counting.{Twice, gain-twice, count-none}
 use Rattle.corners.specs.Limits.{Limits}
 
-dominates-on : (p u c : List ℕ) → length p ≤ length u → dominates p u ≡ true → dominates u c ≡ true → dominates p c ≡ true
+dominates-through : (p u c : List ℕ) → length p ≤ length u → dominates p u ≡ true → dominates u c ≡ true → dominates p c ≡ true
 unfolding dominates
-dominates-on [] u c l d e = refl
-dominates-on (x ∷ p) [] c l d e = absurd (let no′ : ⊥ = omega arith in no′)
-dominates-on (x ∷ p) (y ∷ u) [] l d e = refl
-dominates-on (x ∷ p) (y ∷ u) (z ∷ c) l d e =
+dominates-through [] u c l d e = refl
+dominates-through (x ∷ p) [] c l d e = absurd (let no′ : ⊥ = omega arith in no′)
+dominates-through (x ∷ p) (y ∷ u) [] l d e = refl
+dominates-through (x ∷ p) (y ∷ u) (z ∷ c) l d e =
     let first = both-true (leb x y) (dominates p u) d in
     let then = both-true (leb y z) (dominates u c) e in
     both-intro (leb x z) (dominates p c) (le-leb x z (le-trans (leb-true x y (first .0)) (leb-true y z (then .0))))
-    (dominates-on p u c (omega arith) (first .1) (then .1))
-
-implied : (s t : Bool) → (s ≡ true → t ≡ true) → holds s ≤ holds t
-unfolding holds
-implied true t h = rw (h refl) (omega arith)
-implied false t h = omega arith
+    (dominates-through p u c (omega arith) (first .1) (then .1))
 
 cover-on : (trials : List (List ℕ)) (u c : List ℕ) → ((j : ℕ) → j < length trials → length (getD trials j []) ≤ length u) → dominates u c ≡ true → cover trials u ≤ cover trials c
 unfolding cover
@@ -39,7 +35,7 @@ cover-on [] u c long d = omega arith
 cover-on (t ∷ trials) u c long d =
     omega (
       arith,
-      implied (dominates t u) (dominates t c) (λ e. dominates-on t u c (long 0 (omega arith)) e d),
+      holds-implied (dominates t u) (dominates t c) (λ e. dominates-through t u c (long 0 (omega arith)) e d),
       cover-on trials u c (λ j l. long (suc j) (omega arith)) d,
     )
 

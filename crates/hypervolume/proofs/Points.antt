@@ -13,7 +13,7 @@ use borrow.Author.Tests.{ne-eqb}
 use Rattle.slices.specs.Choices.{both}
 use Rattle.hypervolume.specs.Cells.{holds, dominates, join, edges}
 use Rattle.hypervolume.specs.Axes.{axes-within}
-use Rattle.hypervolume.proofs.Tests.{Compared, below, above, compared}
+use Rattle.hypervolume.proofs.Tests.{holds-le-one, Compared, below, above, compared}
 
 -- Two points of n axes, of which the first have been gone through.
 pub record Along (n : ℕ) (p q : List ℕ) (axis : ℕ) : Type 0 where
@@ -83,11 +83,6 @@ pub counted-none : (n : ℕ) (p q : List ℕ) → length p ≡ n → length q �
 counted-none n p q e f =
     record { along = record { left = e; right = f; within = omega arith }; so-far = omega arith; most = omega arith }
 
-test-at-most : (b : Bool) → holds b ≤ 1
-unfolding holds
-test-at-most true = omega arith
-test-at-most false = omega arith
-
 pub counted-more : {n : ℕ} {p q : List ℕ} {axes axis one : ℕ} → AxesCounted n p q axes axis → axis < n → one ≡ holds (leb (getD p axis 0) (getD q axis 0)) → AxesCounted n p q (axes + one) (axis + 1)
 unfolding axes-within
 counted-more {n} {p} {q} {axes} {axis} {one} h l e =
@@ -98,7 +93,7 @@ counted-more {n} {p} {q} {axes} {axis} {one} h l e =
     record {
       along = along-more (h .along) l;
       so-far = rw (add-one axis) (omega arith);
-      most = omega (arith, h .most, test-at-most (leb (getD p axis 0) (getD q axis 0)));
+      most = omega (arith, h .most, holds-le-one (leb (getD p axis 0) (getD q axis 0)));
     }
 
 pub counted-end : {n : ℕ} {p q : List ℕ} {axes axis : ℕ} → AxesCounted n p q axes axis → n ≤ axis → axes ≡ axes-within p q
@@ -113,7 +108,7 @@ pub axes-most : (p q : List ℕ) → axes-within p q ≤ length p
 unfolding axes-within
 axes-most [] q = omega arith
 axes-most (x ∷ p) [] = omega arith
-axes-most (x ∷ p) (y ∷ q) = omega (arith, test-at-most (leb x y), axes-most p q)
+axes-most (x ∷ p) (y ∷ q) = omega (arith, holds-le-one (leb x y), axes-most p q)
 
 axes-dominate : (p q : List ℕ) → length p ≡ length q → eqb (axes-within p q) (length p) ≡ dominates p q
 unfolding axes-within dominates both holds

@@ -41,7 +41,12 @@ holds-le-one false = omega arith
 pub holds-small : (t : Bool) {n : ℕ} → n ≡ holds t → n ≤ 1
 holds-small t e = omega (arith, holds-le-one t)
 
--- a test that is implied by another counts at most as often
+-- a test that implies another counts at most as often
+pub holds-implied : (s t : Bool) → (s ≡ true → t ≡ true) → holds s ≤ holds t
+unfolding holds
+holds-implied true t h = rw (h refl) (omega arith)
+holds-implied false t h = omega arith
+
 pub both-le-right : (s t : Bool) → holds (both s t) ≤ holds t
 unfolding both holds
 both-le-right true t = omega arith

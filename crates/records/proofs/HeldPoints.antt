@@ -1,4 +1,4 @@
--- The points of a list of records: which they are, and that those of a sound archive's records, or of all of them but
+-- Records that are allowed: their contributions, and their points: which they are, and that those of a sound archive's records, or of all of them but
 -- one, are as the counting takes them.
 use Prim.Native.Nat.{ℕ, zero, suc, _≤_, _<_, zero-le}
 use mathlib.Core.Path.{_≡_, refl, ap}
@@ -7,15 +7,17 @@ use mathlib.Core.List.{List, _∷_, _++_, []}
 use native.Mathlib.Omega.{arith}
 use lib.ListN.{length, getD}
 use Rattle.slices.proofs.Choices.{both-true}
+use Rattle.hypervolume.specs.Cells.{box}
 use Rattle.hypervolume.specs.Sorted.{Sorted}
-use Rattle.words.specs.Archive.{Trial, Row, Shape, Archive, point, trials, points, before}
-use Rattle.words.specs.Layout.{read, word}
+use Rattle.words.specs.Archive.{Trial, Row, Shape, Archive, point, reference, trials, points, before}
+use Rattle.words.specs.Layout.{record-words, read, word}
 use Rattle.words.specs.Format.{archive-rows, row-allowed, rows-allowed, ordered}
 use Rattle.words.specs.Places.{rows-before}
 use Rattle.words.proofs.Passed.{Sound, ShapeBounds, row-bounds, shape-bounds, coordinates-small}
 use Rattle.calls.proofs.Known.{known}
 use Rattle.calls.proofs.Order.{Ascent, lower, level, ascent}
-use Rattle.records.specs.Columns.{leave-out}
+use Rattle.records.specs.Columns.{field-of, column, leave-out}
+use Rattle.records.specs.Amounts.{Each}
 use Rattle.records.proofs.LeaveOut.{left-allowed, left-ordered, left-fewer}
 use Rattle.records.proofs.RowAt.{blank}
 
@@ -34,6 +36,13 @@ unfolding points trials
 points-at [] i d l = absurd (let no′ : ⊥ = omega arith in no′)
 points-at (r ∷ rows) zero d l = refl
 points-at (r ∷ rows) (suc i) d l = points-at rows i d (omega arith)
+
+-- No contribution of an allowed record is above the box.
+pub column-each : (s : Shape) (rows : List Row) → rows-allowed s rows ≡ true → Each (column 4 rows) (box (reference s))
+unfolding column rows-allowed field-of record-words
+column-each s [] h i = zero-le
+column-each s (r ∷ rows) h zero = row-bounds s r (both-true (row-allowed s r) (rows-allowed s rows) h .0) .kept-high
+column-each s (r ∷ rows) h (suc i) = column-each s rows (both-true (row-allowed s r) (rows-allowed s rows) h .1) i
 
 -- No coordinate of allowed records is above 1,048,576.
 points-small : (s : Shape) (rows : List Row) → ShapeBounds s → rows-allowed s rows ≡ true → (k axis : ℕ) → getD (getD (points (trials rows)) k []) axis 0 ≤ 1048576

@@ -17,6 +17,7 @@ use Rattle.hypervolume.specs.Counts.{cover}
 use Rattle.hypervolume.specs.Axes.{axes-within}
 use Rattle.hypervolume.proofs.Points.{axes-most}
 use Rattle.slices.proofs.Choices.{both-true, both-intro}
+use Rattle.hypervolume.proofs.Tests.{holds-implied}
 use Rattle.hypervolume.proofs.Dominance.{cover-append}
 use Rattle.hypervolume.proofs.Skips.{dominates-self}
 use Rattle.corners.specs.Limits.{offer, Offered, Limits}
@@ -69,16 +70,11 @@ raised-dominates (x ∷ p) (y ∷ u) (suc a) m n l d =
     let d′ = both-true (leb x y) (dominates p (set u a m)) d in
     both-intro (leb x y) (dominates p (set u a n)) (d′ .0) (raised-dominates p u a m n l (d′ .1))
 
-implied : (s t : Bool) → (s ≡ true → t ≡ true) → holds s ≤ holds t
-unfolding holds
-implied true t h = rw (h refl) (omega arith)
-implied false t h = omega arith
-
 raised-cover : (trials : List (List ℕ)) (u : List ℕ) (a m n : ℕ) → m ≤ n → cover trials (set u a m) ≤ cover trials (set u a n)
 unfolding cover
 raised-cover [] u a m n l = omega arith
 raised-cover (t ∷ trials) u a m n l =
-    omega (arith, implied (dominates t (set u a m)) (dominates t (set u a n)) (raised-dominates t u a m n l), raised-cover trials u a m n l)
+    omega (arith, holds-implied (dominates t (set u a m)) (dominates t (set u a n)) (raised-dominates t u a m n l), raised-cover trials u a m n l)
 
 -- What makes an offer is at most u moved along the axis to it.
 moved-back : (t u : List ℕ) (a : ℕ) → dominates (set t a 0) u ≡ true → dominates t (set u a (getD t a 0)) ≡ true

@@ -1,29 +1,25 @@
 -- One drop made on the columns of an archive: what its steps ask, and what it leaves.
 use Prim.Native.Nat.{ℕ, zero, suc, _+_, _-_, _≤_, _<_, zero-le}
 use mathlib.Core.Path.{_≡_, refl, sym, ap, ap₂, _∙_, subst}
-use mathlib.Core.Bool.{true}
 use mathlib.Core.List.{List, _∷_, []}
 use native.Mathlib.Nat.{le-trans}
 use native.Mathlib.Omega.{arith}
 use lib.ListN.{length, take, getD, length-take}
 use lib.Seq.{getD-take}
 use Rattle.slices.specs.Put.{put}
-use Rattle.slices.proofs.Choices.{both-true}
 use Rattle.hypervolume.specs.Cells.{box}
 use Rattle.hypervolume.specs.Counts.{gain, joints}
 use Rattle.hypervolume.specs.Sorted.{Small, Sorted}
-use Rattle.words.specs.Archive.{Row, Shape, Archive, reference, point}
-use Rattle.words.specs.Layout.{record-words}
-use Rattle.words.specs.Format.{row-allowed, rows-allowed}
-use Rattle.words.proofs.Passed.{shape-bounds, row-bounds, box-bound}
+use Rattle.words.specs.Archive.{Row, Archive, reference, point}
+use Rattle.words.proofs.Passed.{shape-bounds, box-bound}
 use Rattle.calls.specs.Calls.{reference-of, held-points, least-row, removal-loss, removed, dropped, note}
 use Rattle.calls.proofs.Members.{split}
 use Rattle.calls.proofs.Counted.{total-removed}
 use Rattle.calls.proofs.Drops.{leaving, DropKeeps, drop-keeps}
-use Rattle.records.specs.Columns.{field-of, column}
+use Rattle.records.specs.Columns.{column}
 use Rattle.records.specs.Amounts.{moved, Each}
 use Rattle.records.proofs.Columns.{length-column}
-use Rattle.records.proofs.HeldPoints.{length-points, sound-sorted}
+use Rattle.records.proofs.HeldPoints.{length-points, sound-sorted, column-each}
 use Rattle.records.proofs.RowAt.{blank}
 use Rattle.reduction.specs.Columns.{closed, LeastNoted, RowsInColumns, InColumns, GapClosed, Droppable, Scratch, Recounting}
 use Rattle.reduction.proofs.columns.Ranking.{number-in, kept-in}
@@ -45,13 +41,7 @@ room {rows} {n} {numbers} {coordinates} {kept} h =
       of-kept = let e : length (take n kept) ≡ length rows = ap length (h .contributed) ∙ length-column 4 rows in omega (arith, length-take n kept);
     }
 
--- No contribution of an allowed record is above the box; nor with one left out.
-column-each : (s : Shape) (rows : List Row) → rows-allowed s rows ≡ true → Each (column 4 rows) (box (reference s))
-unfolding column rows-allowed field-of record-words
-column-each s [] h i = zero-le
-column-each s (r ∷ rows) h zero = row-bounds s r (both-true (row-allowed s r) (rows-allowed s rows) h .0) .kept-high
-column-each s (r ∷ rows) h (suc i) = column-each s rows (both-true (row-allowed s r) (rows-allowed s rows) h .1) i
-
+-- A bound on every number holds with one left out.
 each-closed : (k : ℕ) (l : List ℕ) (limit : ℕ) → Each l limit → Each (closed k l) limit
 unfolding closed
 each-closed zero [] limit h i = zero-le

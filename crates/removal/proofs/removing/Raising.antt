@@ -1,7 +1,7 @@
 -- The ways out of raised: row 13, or the others' joint counts by their places.
 use Prim.Native.Nat.{ℕ, zero, suc, _+_, _-_, _≤_, _<_, zero-le}
 use mathlib.Core.Path.{_≡_, refl, sym, ap, ap₂, subst, _∙_}
-use mathlib.Core.Bool.{Bool, true, false, not}
+use mathlib.Core.Bool.{Bool, false, not}
 use mathlib.Core.List.{List, _∷_, []}
 use native.Mathlib.Omega.{arith}
 use lib.Dec.{ltb}
@@ -10,19 +10,18 @@ use lib.ListN.{length, getD, take}
 use Rattle.slices.specs.Choices.{either}
 use Rattle.slices.specs.Spread.{Sparse}
 use Rattle.hypervolume.specs.Cells.{box}
-use Rattle.slices.proofs.Choices.{both-true}
 use Rattle.hypervolume.proofs.Counting.{joint-le-box}
 use Rattle.corners.specs.declared.Updated.{Updated}
-use Rattle.words.specs.Archive.{Trial, Row, Shape, Archive, point, reference}
-use Rattle.words.specs.Layout.{read, word, record-words}
-use Rattle.words.specs.Format.{archive-rows, row-allowed, rows-allowed}
+use Rattle.words.specs.Archive.{Trial, Row, Archive, point}
+use Rattle.words.specs.Layout.{read, word}
+use Rattle.words.specs.Format.{archive-rows}
 use Rattle.words.specs.Places.{rows-before, row-at}
-use Rattle.words.proofs.Passed.{row-bounds}
 use Rattle.calls.specs.Calls.{reference-of, held-points, box-of, insert-gain, joint-with, row-of, others, without, removal-loss, exceeds, remove-overruns}
-use Rattle.records.specs.Columns.{field-of, column, leave-out}
+use Rattle.records.specs.Columns.{column, leave-out}
 use Rattle.records.specs.Amounts.{some-pair, Each, Placed, amounts-at, shares}
 use Rattle.ask.specs.RecordCounts.{CountedJoints}
 use Rattle.removal.specs.Removing.{number-at, removal-shares, RemoveAmounts}
+use Rattle.records.proofs.HeldPoints.{column-each}
 use Rattle.records.proofs.LeaveOut.{others-at, row-of-at, length-leave-out, left-allowed}
 use Rattle.calls.proofs.Known.{count-rows, known}
 use Rattle.records.proofs.MovedAmounts.{exceeds-pairs}
@@ -69,13 +68,7 @@ module _ {w : List ℕ} {k : ℕ} (p : archive-rows w 0 ≡ 0) (l : k < word w 0
       (subst (λ x. Sparse (length x) (shares (without (read w) (number-at w k)) (row-at w k .trial) x) places counts (r .moved)) rest-rows
       (amounts-shares (without (read w) (number-at w k)) (row-at w k .trial) refl rest-rows here c))
 
--- Every kept contribution and every joint count is at most the box.
-column-each : (s : Shape) (rows : List Row) → rows-allowed s rows ≡ true → Each (column 4 rows) (box (reference s))
-unfolding column rows-allowed field-of record-words
-column-each s [] h i = zero-le
-column-each s (r ∷ rows) h zero = row-bounds s r (both-true (row-allowed s r) (rows-allowed s rows) h .0) .kept-high
-column-each s (r ∷ rows) h (suc i) = column-each s rows (both-true (row-allowed s r) (rows-allowed s rows) h .1) i
-
+-- Every joint count is at most the box.
 shares-each : (a : Archive) (t : Trial) (rows : List Row) → Each (shares a t rows) (box-of a)
 unfolding shares joint-with
 shares-each a t [] i = zero-le
