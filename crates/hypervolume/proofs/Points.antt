@@ -1,5 +1,5 @@
 -- The loops over the axes in `Point`: each goes through n axes in turn. What it has so far is stated for any n.
-use Prim.Native.Nat.{ℕ, zero, suc, _+_, _-_, _*_, _/_, _^_, _≤_, _<_, max}
+use Prim.Native.Nat.{ℕ, zero, suc, _+_, _-_, _*_, _/_, _%_, _^_, _≤_, _<_, max}
 use mathlib.Core.Path.{_≡_, refl, sym, ap, _∙_}
 use mathlib.Core.Bool.{Bool, true, false}
 use mathlib.Core.List.{List, _∷_, []}
@@ -72,6 +72,23 @@ at-most-bit x y l m = go (leb x y) (compared x y)
     go : (b : Bool) → Compared x y b → (y + 4294967296 - x) / 4294967296 ≡ holds b
     go true (below n) = omega arith
     go false (above n) = omega arith
+
+-- The edge length of two numbers: the quotient is the bit above, and up to the reference the remainder is the length.
+pub edge-length : (r x : ℕ) → r < 4294967296 → x < 4294967296 → (r + 4294967296 - x) / 4294967296 * ((r + 4294967296 - x) % 4294967296) ≡ r - x
+unfolding holds
+edge-length r x l m = rw (at-most-bit x r m l) (go (leb x r) (compared x r))
+  where
+    go : (b : Bool) → Compared x r b → holds b * ((r + 4294967296 - x) % 4294967296) ≡ r - x
+    go true (below n) = omega arith
+    go false (above n) = omega arith
+
+-- Two halves of a word, multiplied, fit a word.
+pub halves-fit : {a b : ℕ} → a < 4294967296 → b < 4294967296 → a * b < 2 ^ 64
+halves-fit {a} {b} l m =
+    let left : a ≤ 4294967295 = omega arith in
+    let right : b ≤ 4294967295 = omega arith in
+    let most : a * b ≤ 4294967295 * 4294967295 = mul-le-mul left right in
+    omega arith
 
 -- How many axes are within: those so far, and those left.
 pub record AxesCounted (n : ℕ) (p q : List ℕ) (axes axis : ℕ) : Type 0 where

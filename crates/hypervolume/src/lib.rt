@@ -46,15 +46,13 @@ pub fn put_point(points: &mut [[u32; 3]], i: usize, p: Point)
     points[i] = at;
 }
 
-// The edge length on one axis: the reference less the coordinate, or 0 past the reference.
+// The edge length on one axis: the reference less the coordinate, or 0 past the reference. By arithmetic alone: the quotient
+// is 1 up to the reference and 0 past it, so that nothing is left to foretell.
 pub fn edge(reference: u32, x: u32) -> u64
     ensures { λ r. ⌜ r ≡ reference - x ⌝ }
 {
-    if x < reference {
-        (reference - x) as u64
-    } else {
-        0
-    }
+    let ahead = reference as u64 + 4294967296 - x as u64;
+    ahead / 4294967296 * (ahead % 4294967296)
 }
 
 impl Point {

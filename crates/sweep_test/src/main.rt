@@ -1,5 +1,5 @@
-// The gate's test of the sweep: small lists of points, with ties, equal and dominated points and points beyond the
-// reference, against a direct count of the cells.
+// The gate's test of the sweep: edge lengths at the limits of their numbers, against a comparison of the two; small lists of
+// points, with ties, equal and dominated points and points beyond the reference, against a direct count of the cells.
 use hypervolume::Point;
 use libc::STDOUT_FILENO;
 use testing::noise;
@@ -7,6 +7,44 @@ ghost use mathlib.Core.Path.{_≡_};
 ghost use Prim.Native.Nat.{_≤_, _<_};
 ghost use lib.ListN.{length};
 ghost use Rattle.hypervolume.specs.Sorted.{Small, Sorted};
+
+// Numbers at the limits of 0, of a coordinate and of 32 bits, each beside its neighbours.
+const LIMITS: [u32; 12] = [
+    0,
+    1,
+    2,
+    1048575,
+    1048576,
+    1048577,
+    2147483647,
+    2147483648,
+    2147483649,
+    4294967293,
+    4294967294,
+    4294967295,
+];
+
+// The edge length by a comparison.
+fn compared(reference: u32, x: u32) -> u64 {
+    if x < reference {
+        (reference - x) as u64
+    } else {
+        0
+    }
+}
+
+// How many of the 144 pairs of these numbers have another edge length.
+fn edges_differ() -> u64 {
+    let mut differ: u64 = 0;
+    for pair in 0..144usize {
+        let reference = LIMITS[pair / 12];
+        let x = LIMITS[pair % 12];
+        if hypervolume::edge(reference, x) != compared(reference, x) {
+            differ = differ + 1;
+        }
+    }
+    differ
+}
 
 // Points with x and y below `limit`, so that many are equal where it is small, and with equal neighbours on z.
 fn fill(set: u64, limit: u64, points: &mut [[u32; 3]])
@@ -128,14 +166,19 @@ fn agrees(set: u64) -> bool {
         && update_agrees(&points[..n], &all, reference, point(set, 1, 0))
 }
 
-fn main() {
+// How many of 400 sets differ from the direct count.
+fn sets_differ() -> u64 {
     let mut differ: u64 = 0;
     for set in 0..400u64 {
         if !agrees(set) {
             differ = differ + 1;
         }
     }
-    io::write_all(STDOUT_FILENO, b"sweep: 400 sets, ");
-    io::print_decimal(STDOUT_FILENO, differ);
+    differ
+}
+
+fn main() {
+    testing::print(b"edge: 144 pairs, ", edges_differ());
+    testing::print(b" differ\nsweep: 400 sets, ", sets_differ());
     io::write_all(STDOUT_FILENO, b" differ\n");
 }
