@@ -1,4 +1,5 @@
--- The loops over the axes in `Point`: each goes through n axes in turn. What it has so far is stated for any n.
+-- The loops over the axes in `Point`: each goes through n axes in turn. What it has so far is stated for any n. Besides, what
+-- is worked out of two coordinates by arithmetic: a test and the edge length.
 use Prim.Native.Nat.{ℕ, zero, suc, _+_, _-_, _*_, _/_, _%_, _^_, _≤_, _<_, max}
 use mathlib.Core.Path.{_≡_, refl, sym, ap, _∙_}
 use mathlib.Core.Bool.{Bool, true, false}

@@ -46,8 +46,8 @@ pub fn put_point(points: &mut [[u32; 3]], i: usize, p: Point)
     points[i] = at;
 }
 
-// The edge length on one axis: the reference less the coordinate, or 0 past the reference. By arithmetic alone: the quotient
-// is 1 up to the reference and 0 past it, so that nothing is left to foretell.
+// The edge length on one axis: the reference less the coordinate, or 0 past the reference. By arithmetic alone, so that there is
+// no branch to mispredict: the quotient is 1 up to the reference and 0 past it.
 pub fn edge(reference: u32, x: u32) -> u64
     ensures { λ r. ⌜ r ≡ reference - x ⌝ }
 {
