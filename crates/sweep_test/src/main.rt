@@ -1,6 +1,7 @@
 // The gate's test of the sweep: edge lengths at the limits of their numbers, against a comparison of the two; small lists of
 // points, with ties, equal and dominated points and points beyond the reference, against a direct count of the cells.
 use hypervolume::Point;
+use hypervolume::number::less;
 use libc::STDOUT_FILENO;
 use testing::noise;
 ghost use mathlib.Core.Path.{_≡_};
@@ -8,7 +9,7 @@ ghost use Prim.Native.Nat.{_≤_, _<_};
 ghost use lib.ListN.{length};
 ghost use Rattle.hypervolume.specs.Sorted.{Small, Sorted};
 
-// Numbers at the limits of 0, of a coordinate and of 32 bits, each beside its neighbours.
+// Numbers at the limits of 0, of a coordinate, of 31 and of 32 bits, each beside its neighbours.
 const LIMITS: [u32; 12] = [
     0,
     1,
@@ -24,22 +25,16 @@ const LIMITS: [u32; 12] = [
     4294967295,
 ];
 
-// The edge length by a comparison.
-fn compared(reference: u32, x: u32) -> u64 {
-    if x < reference {
-        (reference - x) as u64
-    } else {
-        0
-    }
+// Whether the edge length is what a comparison of the two gives.
+fn edge_agrees(reference: u32, x: u32) -> bool {
+    hypervolume::edge(reference, x) == less(reference as u64, x as u64)
 }
 
 // How many of the 144 pairs of these numbers have another edge length.
 fn edges_differ() -> u64 {
     let mut differ: u64 = 0;
     for pair in 0..144usize {
-        let reference = LIMITS[pair / 12];
-        let x = LIMITS[pair % 12];
-        if hypervolume::edge(reference, x) != compared(reference, x) {
+        if !edge_agrees(LIMITS[pair / 12], LIMITS[pair % 12]) {
             differ = differ + 1;
         }
     }

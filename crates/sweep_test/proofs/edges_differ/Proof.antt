@@ -15,23 +15,20 @@ abbrev μ-loop : tie.MeasureT-loop
 loop-holds : tie.Need-loop-holds Inv-loop μ-loop
 loop-holds c = search needs
 
-mul-reference : tie.Need-mul-reference Inv-loop μ-loop
-mul-reference c = search needs
+mul-edge-agrees : tie.Need-mul-edge-agrees Inv-loop μ-loop
+mul-edge-agrees c = search needs
 
-array-read-reference : tie.Need-array-read-reference Inv-loop μ-loop
-array-read-reference c = search needs
+array-read-edge-agrees : tie.Need-array-read-edge-agrees Inv-loop μ-loop
+array-read-edge-agrees c = search needs
 
-mul-x : tie.Need-mul-x Inv-loop μ-loop
-mul-x c = search needs
+mul-edge-agrees-2 : tie.Need-mul-edge-agrees-2 Inv-loop μ-loop
+mul-edge-agrees-2 c = search needs
 
-array-read-x : tie.Need-array-read-x Inv-loop μ-loop
-array-read-x c = search needs
+array-read-edge-agrees-2 : tie.Need-array-read-edge-agrees-2 Inv-loop μ-loop
+array-read-edge-agrees-2 c = search needs
 
-edge-requires : tie.Need-edge-requires Inv-loop μ-loop
-edge-requires c κs = search needs
-
-compared-requires : tie.Need-compared-requires Inv-loop μ-loop
-compared-requires c κs = search needs
+edge-agrees-requires : tie.Need-edge-agrees-requires Inv-loop μ-loop
+edge-agrees-requires c κs = search needs
 
 add-differ : tie.Need-add-differ Inv-loop μ-loop
 add-differ c = search needs
@@ -55,12 +52,11 @@ edges-differ-spec =
     Inv-loop
     μ-loop
     loop-holds
-    mul-reference
-    array-read-reference
-    mul-x
-    array-read-x
-    edge-requires
-    compared-requires
+    mul-edge-agrees
+    array-read-edge-agrees
+    mul-edge-agrees-2
+    array-read-edge-agrees-2
+    edge-agrees-requires
     add-differ
     add-pair
     loop-less
