@@ -266,7 +266,12 @@ static void counts_1_to_3(void)
     start(4, 4, 4);
     CHECK(insert(1, 4, 0, 0) == TA_DONE);
     CHECK(contribution(1) == 0);
-    CHECK(insert(2, 5, 0, 0) == TA_ABOVE_REFERENCE);
+    CHECK(is_answer(gain(5, 0, 0), TA_DONE, 0));
+    CHECK(insert(2, 5, 0, 0) == TA_DONE);
+    CHECK(words[TA_COUNT] == 2);
+    CHECK(contribution(2) == 0);
+    CHECK(insert(2, 0, 0, 0) == TA_NUMBER_HELD);
+    CHECK(words[TA_TOTAL] == 0);
 }
 
 static void counts_4_and_5(void)
@@ -325,7 +330,7 @@ static void counts_9_to_11(void)
     CHECK(insert(1, 0, 0, 0) == TA_DONE);
     CHECK(words[TA_TOTAL] == 1152921504606846976u);
     CHECK(is_answer(share(), TA_DONE, 1000000));
-    CHECK(insert(2, TA_MAX_REFERENCE + 1, 0, 0) == TA_ABOVE_REFERENCE);
+    CHECK(insert(2, TA_MAX_COORDINATE + 1, 0, 0) == TA_BAD_COORDINATE);
 
     CHECK(ta_start(one, LENGTH(one), 4, 4, 4, 1) == TA_DONE);
     CHECK(ta_insert(one, LENGTH(one), 1, 1, 1, 1) == TA_DONE);
@@ -466,10 +471,10 @@ static void rows_4_to_10(void)
     CHECK(ta_start(words, 0, 4, 4, 4, TA_MAX_CAPACITY + 1) == TA_BAD_START);
     CHECK(ta_start(words, LENT, 4, 0, 4, 8) == TA_BAD_START);
     CHECK(ta_start(words, WORDS - 1, 4, 4, 4, 8) == TA_SLICE_SHORT);
-    CHECK(insert(0, 5, 5, 5) == TA_BAD_NUMBER);
+    CHECK(insert(0, TA_MAX_COORDINATE + 1, 5, 5) == TA_BAD_NUMBER);
     CHECK(insert(TA_MAX_NUMBER + 1, 0, 0, 0) == TA_BAD_NUMBER);
-    CHECK(insert(1, 0, 0, 5) == TA_ABOVE_REFERENCE);
-    CHECK(is_answer(gain(0, 5, 0), TA_ABOVE_REFERENCE, 0));
+    CHECK(insert(1, 0, 0, TA_MAX_COORDINATE + 1) == TA_BAD_COORDINATE);
+    CHECK(is_answer(gain(0, TA_MAX_COORDINATE + 1, 0), TA_BAD_COORDINATE, 0));
     CHECK(insert(1, 0, 0, 0) == TA_NUMBER_HELD);
     CHECK(remove_trial(5) == TA_NOT_HELD);
     CHECK(is_answer(joint(5, 5), TA_NOT_HELD, 0));
@@ -519,6 +524,59 @@ static void rows_15_and_16(void)
     check_untouched(before);
 }
 
+/* One trial on this coordinate of an axis, under a reference equal on all of
+   them: held as given, with the cells that it dominates. */
+static void coordinate_held(uint64_t reference, size_t axis, uint64_t coordinate)
+{
+    uint64_t at[3] = {0, 0, 0};
+    uint64_t cells = coordinate < reference ? (reference - coordinate) * reference * reference : 0;
+
+    at[axis] = coordinate;
+    start(reference, reference, reference);
+    CHECK(is_answer(gain(at[0], at[1], at[2]), TA_DONE, cells));
+    CHECK(insert(1, at[0], at[1], at[2]) == TA_DONE);
+    CHECK(words[TA_COUNT] == 1);
+    CHECK(words[TA_TOTAL] == cells);
+    CHECK(words[TA_RECORDS + 1 + axis] == coordinate);
+    CHECK(contribution(1) == cells);
+    CHECK(is_least(least(), TA_DONE, 1, cells));
+    CHECK(is_answer(audit(), TA_DONE, 1));
+    /* row 3, by the limit alone */
+    words[TA_RECORDS + 1 + axis] = TA_MAX_COORDINATE + 1;
+    CHECK(is_answer(audit(), TA_BAD_RECORDS, 0));
+    words[TA_RECORDS + 1 + axis] = TA_MAX_COORDINATE;
+    CHECK(audit().refusal == TA_DONE);
+}
+
+/* Both sides of the reference and of the limit, one axis at a time. */
+static void coordinates_at_their_limits(void)
+{
+    static const uint64_t references[] = {1, 4, TA_MAX_REFERENCE - 1, TA_MAX_REFERENCE};
+    size_t axis;
+    size_t i;
+
+    for (axis = 0; axis < 3; axis++) {
+        uint64_t past[3] = {0, 0, 0};
+
+        past[axis] = TA_MAX_COORDINATE + 1;
+        for (i = 0; i < LENGTH(references); i++) {
+            uint64_t reference = references[i];
+
+            coordinate_held(reference, axis, reference - 1);
+            coordinate_held(reference, axis, reference);
+            if (reference < TA_MAX_COORDINATE) {
+                coordinate_held(reference, axis, reference + 1);
+            }
+            coordinate_held(reference, axis, TA_MAX_COORDINATE);
+            start(reference, reference, reference);
+            remember(before);
+            CHECK(is_answer(gain(past[0], past[1], past[2]), TA_BAD_COORDINATE, 0));
+            CHECK(insert(1, past[0], past[1], past[2]) == TA_BAD_COORDINATE);
+            check_untouched(before);
+        }
+    }
+}
+
 /* ---- numbers as C passes them */
 
 /* Numbers that 32 bits, or any fewer than 64, would not tell from small ones,
@@ -542,9 +600,9 @@ static void numbers_too_wide(void)
             at[axis] = wide[i];
             CHECK(ta_start(words, LENT, at[0], at[1], at[2], 8) == TA_BAD_START);
             CHECK(insert(0, at[0], at[1], at[2]) == TA_BAD_NUMBER);
-            CHECK(insert(1, at[0], at[1], at[2]) == TA_ABOVE_REFERENCE);
-            CHECK(insert(7, at[0], at[1], at[2]) == TA_ABOVE_REFERENCE);
-            CHECK(is_answer(gain(at[0], at[1], at[2]), TA_ABOVE_REFERENCE, 0));
+            CHECK(insert(1, at[0], at[1], at[2]) == TA_BAD_COORDINATE);
+            CHECK(insert(7, at[0], at[1], at[2]) == TA_BAD_COORDINATE);
+            CHECK(is_answer(gain(at[0], at[1], at[2]), TA_BAD_COORDINATE, 0));
             check_untouched(before);
         }
     }
@@ -562,10 +620,10 @@ static void numbers_converted(void)
     CHECK(ta_start(words, LENT, negative, 4, 4, 8) == TA_BAD_START);
     CHECK(ta_start(words, LENT, 4, 4, 4, negative) == TA_BAD_START);
     CHECK(ta_insert(words, LENT, negative, 1, 1, 1) == TA_BAD_NUMBER);
-    CHECK(ta_insert(words, LENT, 7, negative, 1, 1) == TA_ABOVE_REFERENCE);
-    CHECK(ta_insert(words, LENT, 7, 1, negative, 1) == TA_ABOVE_REFERENCE);
-    CHECK(ta_insert(words, LENT, 7, 1, 1, negative) == TA_ABOVE_REFERENCE);
-    CHECK(is_answer(ta_gain(words, LENT, 1, negative, 1), TA_ABOVE_REFERENCE, 0));
+    CHECK(ta_insert(words, LENT, 7, negative, 1, 1) == TA_BAD_COORDINATE);
+    CHECK(ta_insert(words, LENT, 7, 1, negative, 1) == TA_BAD_COORDINATE);
+    CHECK(ta_insert(words, LENT, 7, 1, 1, negative) == TA_BAD_COORDINATE);
+    CHECK(is_answer(ta_gain(words, LENT, 1, negative, 1), TA_BAD_COORDINATE, 0));
     CHECK(ta_remove(words, LENT, negative) == TA_NOT_HELD);
     CHECK(is_answer(ta_joint(words, LENT, 1, negative), TA_NOT_HELD, 0));
     CHECK(is_answer(ta_reduce(words, LENT, negative, log_words, LOG), TA_ABOVE_COUNT, 0));
@@ -675,6 +733,7 @@ int main(void)
     rows_4_to_10();
     rows_11_to_13();
     rows_15_and_16();
+    coordinates_at_their_limits();
     numbers_too_wide();
     numbers_converted();
     fields();

@@ -6,9 +6,11 @@
  *
  * POINTS AND CELLS
  *   A point is three whole numbers x, y, z; lower is better. A reference
- *   number is 1 to 1,048,576, and a trial's coordinate 0 to the reference on
- *   that axis. A point dominates the cell (i, j, k) where x <= i, y <= j and
- *   z <= k. The box is rx * ry * rz cells, at most 2^60.
+ *   number is 1 to 1,048,576, and a coordinate 0 to 1,048,576 whatever the
+ *   reference. The box has rx * ry * rz cells (i, j, k) with i < rx, j < ry and
+ *   k < rz, at most 2^60. A point dominates the cell where x <= i, y <= j and
+ *   z <= k. So a point at the reference or beyond it on any axis dominates no
+ *   cell: as a trial it is held as given and contributes 0.
  *     total          cells that at least one trial dominates
  *     contribution   cells that this trial dominates and no other trial does
  *     joint          cells that both trials dominate and no third does
@@ -24,8 +26,9 @@
  *     word 5        total
  *     words 6, 7    zero
  *     from word 8   records of five words: trial number (1 to 9,999,999),
- *                   x, y, z, contribution; ascending by z, then y, then x,
- *                   then trial number; the words of unused records are zero
+ *                   x, y, z (0 to 1,048,576 each), contribution; ascending by
+ *                   z, then y, then x, then trial number; the words of unused
+ *                   records are zero
  *   Words from 8 + 5 * capacity on are neither read nor written.
  *
  * ANSWERS AND REFUSALS
@@ -86,7 +89,7 @@
  *     int main(void)
  *     {
  *         static const uint64_t scores[4][3] =
- *             {{1, 2, 2}, {2, 1, 2}, {2, 5, 1}, {1, 1, 3}};
+ *             {{1, 2, 2}, {2, 1, 2}, {2, 2000000, 1}, {1, 1, 3}};
  *         uint64_t words[WORDS], log[LOG_WORDS], i;
  *         ta_answer drops;
  *
@@ -130,6 +133,7 @@ extern "C" {
 /* Limits of an archive. */
 #define TA_MAX_CAPACITY 512
 #define TA_MAX_REFERENCE 1048576
+#define TA_MAX_COORDINATE 1048576
 #define TA_MAX_NUMBER 9999999
 
 /* The stack that any one call stays below, in bytes. bench/stack.c measures it. */
@@ -183,8 +187,8 @@ enum {
     TA_BAD_START = 4,
     /* Insert: trial number out of range. */
     TA_BAD_NUMBER = 5,
-    /* Insert, gain: a coordinate above the reference. */
-    TA_ABOVE_REFERENCE = 6,
+    /* Insert, gain: a coordinate above 1,048,576. */
+    TA_BAD_COORDINATE = 6,
     /* Insert: number already held. */
     TA_NUMBER_HELD = 7,
     /* Insert: count equals capacity. */

@@ -1,8 +1,9 @@
 //! The trial archive: scored trials under a reference point, with their hypervolume and each
 //! trial's contribution, counted in unit cells.
 //!
-//! A point is three whole numbers x, y, z; lower is better. It dominates the cell (i, j, k) where
-//! x ≤ i, y ≤ j and z ≤ k. The *total* is the number of cells that some trial dominates, a
+//! A point is three whole numbers x, y, z, each 0 to 1,048,576; lower is better. It dominates the
+//! cell (i, j, k) below the reference where x ≤ i, y ≤ j and z ≤ k: none where it is at the
+//! reference or beyond it on any axis. The *total* is the number of cells that some trial dominates, a
 //! *contribution* the number that this trial dominates and no other does. Equal trials are several
 //! trials.
 //!
@@ -38,8 +39,8 @@
 //!
 //! Word 0: count of trials. 1: capacity, 1 to 512. 2, 3, 4: the reference, each number 1 to
 //! 1,048,576. 5: total. 6 and 7: zero. From word 8 come records of five words: trial number (1 to
-//! 9,999,999), x, y, z, contribution, in ascending order of z, then y, then x, then trial number.
-//! Words of unused records are zero.
+//! 9,999,999), x, y, z (each 0 to 1,048,576), contribution, in ascending order of z, then y, then
+//! x, then trial number. Words of unused records are zero.
 
 mod archive;
 mod refusal;

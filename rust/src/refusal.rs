@@ -20,8 +20,8 @@ pub enum Refusal {
     BadStart = 4,
     /// Insert: trial number out of range.
     BadNumber = 5,
-    /// Insert, gain: a coordinate above the reference.
-    AboveReference = 6,
+    /// Insert, gain: a coordinate above 1,048,576.
+    BadCoordinate = 6,
     /// Insert: number already held.
     NumberHeld = 7,
     /// Insert: count equals capacity.
@@ -53,7 +53,7 @@ impl Refusal {
         Refusal::BadRecords,
         Refusal::BadStart,
         Refusal::BadNumber,
-        Refusal::AboveReference,
+        Refusal::BadCoordinate,
         Refusal::NumberHeld,
         Refusal::Full,
         Refusal::NotHeld,
@@ -93,7 +93,7 @@ impl fmt::Display for Refusal {
             Refusal::BadRecords => "archive records not valid",
             Refusal::BadStart => "reference or capacity out of range",
             Refusal::BadNumber => "trial number out of range",
-            Refusal::AboveReference => "a coordinate above the reference",
+            Refusal::BadCoordinate => "a coordinate above 1,048,576",
             Refusal::NumberHeld => "trial number already held",
             Refusal::Full => "archive full",
             Refusal::NotHeld => "trial number not held",

@@ -3,7 +3,7 @@
 
 use crate::lend::{compare, expect, Call};
 use crate::reference::book::Book;
-use crate::reference::{Point, MAX_NUMBER, MAX_REFERENCE};
+use crate::reference::{Point, MAX_COORDINATE, MAX_NUMBER, MAX_REFERENCE};
 
 /// The trials of document 01's card.
 const TRIALS: [(u64, Point); 4] = [(1, [1, 2, 2]), (2, [2, 1, 2]), (3, [2, 2, 1]), (4, [1, 1, 3])];
@@ -114,9 +114,10 @@ fn row_2_references_and_totals() {
             all_refused(&with(&[(2 + axis, reference)]), 2);
         }
         passes(&with(&[(2 + axis, MAX_REFERENCE)]));
-        // 1 × 4 × 4 cells are fewer than the total; with a total of 16 a coordinate is too large.
+        // 1 × 4 × 4 cells are fewer than the total. With a total of 16 all is allowed, though most
+        // trials then lie at the reference or beyond it.
         all_refused(&with(&[(2 + axis, 1)]), 2);
-        all_refused(&with(&[(2 + axis, 1), (5, 16)]), 3);
+        passes(&with(&[(2 + axis, 1), (5, 16)]));
         all_refused(&with(&[(2 + axis, 1), (5, 17)]), 2);
     }
     for total in [0, 20, 22, 63, 64] {
@@ -166,9 +167,31 @@ fn row_3_numbers() {
 fn row_3_coordinates_and_contributions() {
     let last = 23;
     for axis in 0..3 {
-        passes(&with(&[(last + 1 + axis, 4)]));
-        for coordinate in [5, 1 | 1 << 32, 3 | 1 << 32, 3 | 1 << 63, u64::MAX] {
+        for coordinate in [4, 5, MAX_COORDINATE - 1, MAX_COORDINATE] {
+            passes(&with(&[(last + 1 + axis, coordinate)]));
+        }
+        let high = [1 << 31, 1 | 1 << 32, 3 | 1 << 32, 3 | 1 << 63, u64::MAX];
+        for coordinate in [MAX_COORDINATE + 1].into_iter().chain(high) {
             all_refused(&with(&[(last + 1 + axis, coordinate)]), 3);
+        }
+    }
+    // Every record, on the axes that do not order it here.
+    for record in [8, 13, 18, 23] {
+        for axis in 0..2 {
+            let trial = card_words()[record];
+            let mut point = [0; 3];
+            point.copy_from_slice(&card_words()[record + 1..record + 4]);
+            point[axis] = MAX_COORDINATE;
+            let mut book = Book::start([4, 4, 4], 8);
+            for (number, own) in TRIALS {
+                let at = if number == trial { point } else { own };
+                assert_eq!(book.insert(usize::MAX, number, at), 0);
+            }
+            let mut words = book.fresh();
+            expect(&Call::Audit, &words, 0);
+            let at = words[8..28].chunks(5).position(|r| r[0] == trial).expect("a trial held");
+            words[8 + 5 * at + 1 + axis] = MAX_COORDINATE + 1;
+            all_refused(&words, 3);
         }
     }
     for record in [8, 13, 18, 23] {
@@ -264,7 +287,7 @@ fn rows_of_start() {
 }
 
 /// Insertions that rows 5 and 6 turn down, in this order, and the gain that row 6 does.
-fn above_the_reference(point: Point, words: &[u64]) {
+fn too_large(point: Point, words: &[u64]) {
     for number in [0, MAX_NUMBER + 1, u64::MAX] {
         expect(&Call::Insert { number, point }, words, 5);
     }
@@ -280,31 +303,22 @@ fn rows_of_insert_and_gain() {
     let full = words_of([4, 4, 4], 4, &TRIALS);
     let insert = |number, point| Call::Insert { number, point };
     for number in [0, MAX_NUMBER + 1, 5 | 1 << 32, u64::MAX] {
-        expect(&insert(number, [5, 5, 5]), &full, 5);
+        expect(&insert(number, [MAX_COORDINATE + 1; 3]), &full, 5);
         expect(&insert(number, [4, 4, 4]), &room, 5);
     }
     for axis in 0..3 {
-        for coordinate in [5, MAX_REFERENCE, MAX_REFERENCE + 1].into_iter().chain(wide(4)) {
-            for others in [0, 4] {
+        for coordinate in [MAX_COORDINATE + 1].into_iter().chain(wide(4)) {
+            for others in [0, 4, 5, MAX_COORDINATE] {
                 let mut point = [others; 3];
                 point[axis] = coordinate;
-                above_the_reference(point, &full);
-                above_the_reference(point, &room);
+                too_large(point, &full);
+                too_large(point, &room);
             }
         }
     }
     for coordinate in wide(4) {
-        above_the_reference([coordinate; 3], &full);
-        above_the_reference([coordinate; 3], &room);
-    }
-    // Under the largest reference.
-    let largest = words_of([MAX_REFERENCE; 3], 2, &[(1, [7, 8, 9])]);
-    for axis in 0..3 {
-        for coordinate in [MAX_REFERENCE + 1].into_iter().chain(wide(MAX_REFERENCE)) {
-            let mut point = [0; 3];
-            point[axis] = coordinate;
-            above_the_reference(point, &largest);
-        }
+        too_large([coordinate; 3], &full);
+        too_large([coordinate; 3], &room);
     }
     for number in 1..=4 {
         expect(&insert(number, [4, 4, 4]), &full, 7);
@@ -314,6 +328,46 @@ fn rows_of_insert_and_gain() {
         expect(&insert(number, [4, 4, 4]), &full, 8);
         expect(&insert(number, [4, 4, 4]), &room, 0);
         expect(&insert(number, [0, 0, 0]), &room, 0);
+    }
+}
+
+/// The trial, alone in an archive: taken, told from one not held, and in the words as given.
+fn taken(reference: Point, point: Point) {
+    let empty = words_of(reference, 2, &[]);
+    let cells: u64 = (0..3).map(|axis| reference[axis].saturating_sub(point[axis])).product();
+    assert_eq!(expect(&Call::Gain { point }, &empty, 0).answer, [0, cells]);
+    let words = expect(&Call::Insert { number: 7, point }, &empty, 0).words;
+    assert_eq!(words[8..13], [7, point[0], point[1], point[2], cells], "{reference:?}");
+    assert_eq!((words[0], words[5]), (1, cells));
+    assert_eq!(expect(&Call::Least, &words, 0).answer, [0, 7, cells]);
+    assert_eq!(expect(&Call::Audit, &words, 0).answer, [0, 1]);
+    expect(&Call::Insert { number: 7, point }, &words, 7);
+}
+
+/// Both sides of the reference and of the largest coordinate, one axis at a time, under a
+/// reference that is 1, small, the largest but one, and the largest.
+#[test]
+fn row_6_has_one_limit_whatever_the_reference() {
+    for number in [1, 2, 4, MAX_REFERENCE - 1, MAX_REFERENCE] {
+        for axis in 0..3 {
+            for reference in [[number; 3], [4; 3].map(|r: u64| r.min(number))] {
+                let near = [reference[axis] - 1, reference[axis], reference[axis] + 1];
+                let last = [MAX_COORDINATE - 1, MAX_COORDINATE];
+                for coordinate in near.into_iter().chain(last) {
+                    for others in [0, 1, reference[0], MAX_COORDINATE] {
+                        let mut point = [others; 3];
+                        point[axis] = coordinate.min(MAX_COORDINATE);
+                        taken(reference, point);
+                    }
+                }
+                let words = words_of(reference, 2, &[(1, [0, 0, 0])]);
+                for coordinate in [MAX_COORDINATE + 1].into_iter().chain(wide(MAX_COORDINATE)) {
+                    let mut point = [0; 3];
+                    point[axis] = coordinate;
+                    too_large(point, &words);
+                }
+            }
+        }
     }
 }
 
@@ -439,9 +493,11 @@ fn a_full_archive_of_512() {
         passes(&congruent);
     }
     let mut last = words.clone();
-    last[8 + 5 * 511 + 3] = 14;
+    last[8 + 5 * 511 + 3] = MAX_COORDINATE + 1;
     all_refused(&last, 3);
-    last[8 + 5 * 511 + 3] = 13;
-    passes(&last);
+    for z in [13, 14, MAX_COORDINATE] {
+        last[8 + 5 * 511 + 3] = z;
+        passes(&last);
+    }
     all_refused(&words[..words.len() - 1], 1);
 }

@@ -1,7 +1,7 @@
 //! Cards, good and damaged, checked and loaded.
 
 use crate::lend::{compare, expect, Call, Tally};
-use crate::reference::{MAX_NUMBER, MAX_REFERENCE};
+use crate::reference::{MAX_COORDINATE, MAX_NUMBER, MAX_REFERENCE};
 use crate::rng::{full_run, scenes, Rng};
 use trial_archive::check_card;
 
@@ -110,7 +110,8 @@ fn empty([capacity, rx, ry, rz]: [u64; 4]) -> Vec<u64> {
 /// The words of an archive with one trial, from the two lines of its card.
 fn single(shape: [u64; 4], [number, x, y, z]: [u64; 4]) -> Vec<u64> {
     let mut words = empty(shape);
-    let cells = (shape[1] - x) * (shape[2] - y) * (shape[3] - z);
+    let edge = |axis: usize, at| shape[axis].saturating_sub(at);
+    let cells = edge(1, x) * edge(2, y) * edge(3, z);
     (words[0], words[5]) = (1, cells);
     words[8..13].copy_from_slice(&[number, x, y, z, cells]);
     words
@@ -169,7 +170,7 @@ fn forms_of_a_field() {
             }
             match place {
                 0 if value == 0 || value > MAX_NUMBER => refused(&second, 5, 2),
-                1..=3 if value > 4 => refused(&second, 6, 2),
+                1..=3 if value > MAX_COORDINATE => refused(&second, 6, 2),
                 _ => accepted(&second, &single(shape, trial_read)),
             }
         }
@@ -198,12 +199,25 @@ fn rows_in_their_order() {
         refused(&card(&[[8, 4, 4, reference]]), 4, 1);
     }
     refused(&after(&room, [0, 4, 4, 4]), 5, 2);
-    refused(&after(&room, [MAX_NUMBER + 1, 5, 5, 5]), 5, 2);
-    refused(&after(&room, [99_999_999, 5, 5, 5]), 5, 2);
-    refused(&after(&room, [1, 5, 4, 4]), 6, 2);
-    refused(&after(&room, [1, 4, 4, 99_999_999]), 6, 2);
-    refused(&after(&full, [0, 5, 5, 5]), 5, 4);
-    refused(&after(&full, [1, 5, 4, 4]), 6, 4);
+    let past = MAX_COORDINATE + 1;
+    refused(&after(&room, [MAX_NUMBER + 1, past, past, past]), 5, 2);
+    refused(&after(&room, [99_999_999, past, past, past]), 5, 2);
+    for point in [[past, 4, 4], [4, past, 4], [4, 4, past], [4, 4, 99_999_999]] {
+        refused(&after(&room, [1, point[0], point[1], point[2]]), 6, 2);
+        refused(&after(&full, [1, point[0], point[1], point[2]]), 6, 4);
+    }
+    refused(&after(&full, [0, past, past, past]), 5, 4);
+    // Beyond the reference a line is an insertion like any other.
+    refused(&after(&full, [1, 5, 4, 4]), 7, 4);
+    refused(&after(&full, [3, 5, 4, MAX_COORDINATE]), 8, 4);
+    for reference in [1, 4, MAX_REFERENCE] {
+        let shape = [2, reference, reference, reference];
+        let point = [MAX_COORDINATE, 0, (reference + 1).min(MAX_COORDINATE)];
+        accepted(
+            &card(&[shape, [1, point[0], point[1], point[2]]]),
+            &single(shape, [1, point[0], point[1], point[2]]),
+        );
+    }
     refused(&after(&full, [1, 4, 4, 4]), 7, 4);
     refused(&after(&full, [3, 4, 4, 4]), 8, 4);
     // The first line at fault is the one named, whatever comes behind it.
@@ -242,7 +256,8 @@ fn the_longest_cards() {
         (Vec::new(), 0),
         (line([513, 0, 0, 0]), 8 * 65_536 + 514),
         (line([512, 0, 0, 0]), 7 * 65_536 + 514),
-        (line([513, 0, 0, 10]), 6 * 65_536 + 514),
+        (line([513, 0, 0, 1_048_577]), 6 * 65_536 + 514),
+        (line([513, 0, 0, 10]), 8 * 65_536 + 514),
         (line([0, 0, 0, 0]), 5 * 65_536 + 514),
         (b"\n".to_vec(), 15 * 65_536 + 514),
     ];
@@ -257,9 +272,9 @@ fn the_longest_cards() {
 /// The refusal and the line unpacked.
 #[test]
 fn a_refusal_with_its_line() {
-    let refusal = check_card(&card(&[[1, 4, 4, 4], [1, 5, 0, 0]])).unwrap_err();
+    let refusal = check_card(&card(&[[1, 4, 4, 4], [1, 1_048_577, 0, 0]])).unwrap_err();
     assert_eq!((refusal.refusal.number(), refusal.line), (6, 2));
-    assert_eq!(refusal.to_string(), "card line 2: a coordinate above the reference");
+    assert_eq!(refusal.to_string(), "card line 2: a coordinate above 1,048,576");
 }
 
 /// A card whose lines are mostly acceptable.
@@ -271,7 +286,11 @@ fn random_card(rng: &mut Rng) -> Vec<u8> {
     let [rx, ry, rz] = reference;
     let mut lines = vec![[capacity, rx, ry, rz]];
     for _ in 0..rng.within(0..=capacity + 1) {
-        let point = reference.map(|r| rng.within(0..=r));
+        let beyond = rng.within(1..=3) == 1;
+        let point = reference.map(|r| match rng.within(1..=3) {
+            1 if beyond => rng.pick(&[(r + 1).min(MAX_COORDINATE), MAX_COORDINATE]),
+            _ => rng.within(0..=r),
+        });
         let numbers = [rng.within(1..=40), rng.within(1..=MAX_NUMBER)];
         lines.push([rng.pick(&numbers), point[0], point[1], point[2]]);
     }

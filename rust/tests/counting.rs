@@ -3,8 +3,9 @@
 use crate::reference::{blocks, cells, Point};
 use crate::rng::{scenes, Rng};
 
+/// A point, on some axes at the reference or beyond it.
 fn point(rng: &mut Rng, reference: Point) -> Point {
-    reference.map(|r| rng.within(0..=r))
+    reference.map(|r| rng.within(0..=r + 2))
 }
 
 #[test]

@@ -32,13 +32,17 @@ fn count_2_the_whole_box() {
     assert_eq!(contributions(&archive), [(1, 64)]);
 }
 
+/// As document 02, W-201 has it: beyond the reference as at it.
 #[test]
-fn count_3_at_and_above_the_reference() {
+fn count_3_at_the_reference_and_beyond() {
     let mut archive = archive(&[(1, [4, 0, 0])]);
     assert_eq!(archive.total(), 0);
     assert_eq!(contributions(&archive), [(1, 0)]);
-    assert_eq!(archive.insert(2, [5, 0, 0]), Err(Refusal::AboveReference));
-    assert_eq!(archive.gain([5, 0, 0]), Err(Refusal::AboveReference));
+    assert_eq!(archive.gain([5, 0, 0]), Ok(0));
+    assert_eq!(archive.insert(2, [5, 0, 0]), Ok(()));
+    assert_eq!(archive.total(), 0);
+    assert_eq!(contributions(&archive), [(1, 0), (2, 0)]);
+    assert_eq!(archive.insert(2, [0, 0, 0]), Err(Refusal::NumberHeld));
 }
 
 #[test]
@@ -92,7 +96,7 @@ fn count_9_the_largest_box() {
     for axis in 0..3 {
         let mut point = [0; 3];
         point[axis] = 1_048_577;
-        assert_eq!(archive.insert(2, point), Err(Refusal::AboveReference));
+        assert_eq!(archive.insert(2, point), Err(Refusal::BadCoordinate));
     }
 }
 

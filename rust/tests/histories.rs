@@ -3,7 +3,7 @@
 
 use crate::lend::{self, narrow};
 use crate::reference::book::Book;
-use crate::reference::{Point, MAX_NUMBER, MAX_REFERENCE};
+use crate::reference::{Point, MAX_COORDINATE, MAX_NUMBER, MAX_REFERENCE};
 use crate::rng::{scenes, Rng};
 use crate::scenes::{part, wide, Shape, Size};
 use trial_archive::{words, Refusal};
@@ -76,8 +76,8 @@ impl History {
         let mut point = self.shape.point(rng, &self.held());
         if rng.chance(5) {
             let axis = rng.index(3);
-            let above = self.shape.reference[axis] + rng.within(1..=2);
-            point[axis] = if rng.chance(50) { above } else { wide(rng, point[axis]) };
+            let past = MAX_COORDINATE + rng.within(0..=2);
+            point[axis] = if rng.chance(50) { past } else { wide(rng, point[axis]) };
         }
         let lent = self.lent(rng);
         let before = self.some_others(rng, number);
@@ -228,6 +228,31 @@ fn full_front() {
     full_without_ties("front", |i| {
         [1 + i * 2_000, 1 + i * 331 % 512 * 1_999, 1_040_000 - i * 1_000 - i * 331 % 512 * 999]
     });
+}
+
+/// Half of the trials, none of them in the front's way, lie beyond a reference of half the range.
+#[test]
+fn full_half_beyond() {
+    let (half, reference) = (MAX_REFERENCE / 2, [MAX_REFERENCE / 2; 3]);
+    let mut words = vec![u64::MAX; 8 + 5 * 512];
+    let lent = words.len();
+    let mut book = Book::start(reference, 512);
+    assert_eq!(words::start(&mut words, [half as u32; 3], 512), Ok(()));
+    for i in 0..512 {
+        let (number, mut point) =
+            (1 + i * 37 % 512, [i * 1_000, 511_000 - i * 1_000, i * 331 % 512]);
+        if i % 2 == 1 {
+            point[i as usize / 2 % 3] = half + 1 + i * 1_000;
+        }
+        assert_eq!(lend::insert(&mut words, number, point), 0);
+        assert_eq!(book.insert(lent, number, point), 0);
+    }
+    assert_eq!(words, book.fresh(), "half beyond");
+    let mut log = [0; 8];
+    assert_eq!(words::reduce(&mut words, 508, &mut log), Ok(4));
+    let notes = book.reduce(lent, 508, 8).expect("4 drops");
+    assert_eq!(log.to_vec(), notes.iter().flat_map(|n| [n.0, n.1]).collect::<Vec<u64>>());
+    assert_eq!(words, book.fresh(), "half beyond, reduced");
 }
 
 #[test]

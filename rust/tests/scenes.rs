@@ -3,7 +3,8 @@
 use crate::lend::Call;
 use crate::reference::book::Book;
 use crate::reference::calls::{self, Archive};
-use crate::reference::{box_of, gain_and_joints, Point, MAX_CAPACITY, MAX_NUMBER, MAX_REFERENCE};
+use crate::reference::{box_of, gain_and_joints, Point};
+use crate::reference::{MAX_CAPACITY, MAX_COORDINATE, MAX_NUMBER, MAX_REFERENCE};
 use crate::rng::Rng;
 
 /// How large a scene's archives are.
@@ -28,6 +29,8 @@ pub struct Shape {
     steps: Option<u64>,
     /// New points lie near one plane, so that few dominate others.
     front: bool,
+    /// A third of the new points' coordinates lie beyond the reference.
+    beyond: bool,
 }
 
 impl Shape {
@@ -58,7 +61,8 @@ impl Shape {
             Size::Full => Some(rng.within(2..=12)),
             _ => rng.chance(40).then(|| rng.within(1..=6)),
         };
-        Shape { size, reference, capacity, steps, front }
+        let beyond = rng.chance(40);
+        Shape { size, reference, capacity, steps, front, beyond }
     }
 
     fn coordinate(&self, rng: &mut Rng, axis: usize) -> u64 {
@@ -69,12 +73,24 @@ impl Shape {
         }
     }
 
+    /// A coordinate beyond the reference, where there is one: the next, the last or any other.
+    fn past(&self, rng: &mut Rng, axis: usize) -> u64 {
+        let next = (self.reference[axis] + 1).min(MAX_COORDINATE);
+        let any = rng.within(next..=MAX_COORDINATE);
+        rng.pick(&[next, next, any, MAX_COORDINATE])
+    }
+
     /// A point for a trial, often equal to, dominated by or level with another one.
     pub fn point(&self, rng: &mut Rng, held: &[Point]) -> Point {
         let mut fresh = [0, 1, 2].map(|axis| self.coordinate(rng, axis));
         if self.front {
             let [rx, ry, rz] = self.reference;
             fresh[2] = rz - (rz * fresh[0] / rx + rz * fresh[1] / ry) / 2;
+        }
+        for axis in 0..3 {
+            if self.beyond && rng.within(1..=3) == 1 {
+                fresh[axis] = self.past(rng, axis);
+            }
         }
         if held.is_empty() || rng.chance(40) {
             return fresh;
@@ -149,7 +165,7 @@ pub fn tight(rng: &mut Rng, words: &mut [u64], call: &Call) {
         },
         _ => return,
     };
-    if (0..3).any(|axis| point[axis] > archive.reference[axis]) {
+    if !calls::coordinates_allowed(point) {
         return;
     }
     let (gain, joints) = gain_and_joints(point, &points, archive.reference);
@@ -222,7 +238,8 @@ fn damage_records(rng: &mut Rng, words: &mut [u64]) {
             let axis = rng.index(3);
             let at = one + 1 + axis;
             let reference = words[2 + axis];
-            let near = [0, reference, just_above(reference), just_above(words[at])];
+            let limit = rng.pick(&[MAX_COORDINATE, MAX_COORDINATE + 1]);
+            let near = [0, reference, just_above(reference), just_above(words[at]), limit, limit];
             words[at] = if rng.chance(20) { high(rng, words[at]) } else { rng.pick(&near) };
         }
         2 => words[one + 4] = rng.pick(&[cells_of(words), just_above(cells_of(words)), u64::MAX]),
@@ -278,13 +295,14 @@ pub fn wide(rng: &mut Rng, narrow: u64) -> u64 {
     rng.pick(&[high, high + 1, high + narrow, any, u64::MAX])
 }
 
-/// The point of an insertion or a gain, now and then above the reference.
+/// The point of an insertion or a gain, now and then at a limit or past it.
 fn point(rng: &mut Rng, shape: &Shape, archive: &Archive) -> Point {
     let mut point = shape.point(rng, &archive.points());
     let axis = rng.index(3);
     if rng.chance(6) {
         let reference = archive.reference[axis];
-        let near = [reference, reference + 1, MAX_REFERENCE + 1, 1 << 31, u64::from(u32::MAX)];
+        let limit = [MAX_COORDINATE, MAX_COORDINATE + 1];
+        let near = [reference, reference + 1, limit[0], limit[1], 1 << 31, u64::from(u32::MAX)];
         point[axis] = rng.pick(&near);
     } else if rng.chance(4) {
         point[axis] = wide(rng, point[axis]);

@@ -52,7 +52,7 @@ fn words_kept_elsewhere() {
     let mut foreign = Archive::from_words(words.clone()).unwrap();
     assert_eq!(foreign.audit(), Ok(false));
     assert_eq!(foreign.reduce(0), Err(Refusal::Miscount));
-    words[9] = 5;
+    words[9] = 1_048_577;
     assert_eq!(Archive::from_words(words.clone()), Err(Refusal::BadRecords));
     words[6] = 1;
     assert_eq!(Archive::from_words(words.clone()), Err(Refusal::BadHeader));

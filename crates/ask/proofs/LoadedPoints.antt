@@ -1,7 +1,6 @@
 -- The points loaded of an archive's records are what the sweep and the update ask for, and their counts are the archive's.
 use Prim.Native.Nat.{ℕ, _≤_}
 use mathlib.Core.Path.{_≡_, sym, ap, ap₂, _∙_}
-use mathlib.Core.Bool.{true}
 use mathlib.Core.List.{List, _++_}
 use native.Mathlib.Omega.{arith}
 use lib.ListN.{length, take, drop}
@@ -11,13 +10,13 @@ use Rattle.hypervolume.specs.Sorted.{Small}
 use Rattle.sweep.specs.Points.{Ready}
 use Rattle.corners.specs.Updating.{Updating}
 use Rattle.corners.specs.declared.Updated.{Updated}
-use Rattle.words.specs.Archive.{Trial, point, reference, trials, points}
+use Rattle.words.specs.Archive.{reference, trials, points}
 use Rattle.words.specs.Layout.{read, read-shape, word}
-use Rattle.words.specs.Format.{archive-rows, coordinates-allowed}
+use Rattle.words.specs.Format.{archive-rows}
 use Rattle.words.specs.Places.{rows-before}
-use Rattle.words.proofs.Passed.{passed, shape-bounds, coordinates-small}
+use Rattle.words.proofs.Passed.{passed}
 use Rattle.calls.specs.Calls.{reference-of, held-points}
-use Rattle.calls.proofs.Known.{count-rows, known}
+use Rattle.calls.proofs.Known.{count-rows}
 use Rattle.records.specs.Columns.{leave-out}
 use Rattle.records.specs.Loaded.{PointsLoaded}
 use Rattle.records.proofs.HeldPoints.{loaded-sorted, length-points}
@@ -83,7 +82,3 @@ all-counted {w} {r} {before} {after} {ps} {k} {answer} e h t c =
       whole = t ∙ ap₂ total (h .under) all;
       each = c ∙ ap₂ (λ l n. l ++ drop n before) (ap₂ contributions (h .under) all) size;
     }
-
--- A trial whose coordinates row 6 lets pass.
-pub allowed-small : (w : List ℕ) (t : Trial) → archive-rows w 0 ≡ 0 → coordinates-allowed (read w .shape) t ≡ true → Small (point t)
-allowed-small w t p e = coordinates-small (read w .shape) t (shape-bounds (read w .shape) (known w p .sound .shaped)) e

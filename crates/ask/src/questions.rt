@@ -16,7 +16,6 @@ use words::find;
 use words::record_at;
 use words::reference_of;
 use words::refusal;
-use words::shape_of;
 ghost use mathlib.Core.Path.{_≡_};
 ghost use Prim.Native.Nat.{_<_};
 ghost use Rattle.words.specs.Layout.{word, read};
@@ -110,7 +109,7 @@ fn gain_in(w: &[u64], row: Row) -> Answer
     requires { ⌜ archive-rows (now w) 0 ≡ 0 ⌝ }
     ensures { λ r. ⌜ r ≡ gain-answer (now (w .entry)) (as-row row .trial) ⌝ }
 {
-    if !coordinates_allowed(shape_of(w), row) {
+    if !coordinates_allowed(row) {
         return Answer::refused(6);
     }
     let mut places = [0u16; 512];

@@ -21,7 +21,7 @@ use Rattle.calls.proofs.Order.{ordered-ascending, ascending-ordered, as
 -- What the rows of insert and of remove let pass.
 pub record InsertPassed (a : Archive) (t : Trial) : Type 0 where
   pub number : number-allowed (t .number) ≡ true
-  pub coordinates : coordinates-allowed (a .shape) t ≡ true
+  pub coordinates : coordinates-allowed t ≡ true
   pub new : held (t .number) (held-trials a) ≡ false
   pub room : length (a .rows) ≡ a .shape .capacity → ⊥
   pub fits : insert-overruns a t ≡ false
@@ -90,7 +90,7 @@ kept-bounds s r k b l =
       kept-high = l;
     }
 
-new-bounds : (s : Shape) (t : Trial) (k : ℕ) → number-allowed (t .number) ≡ true → coordinates-allowed s t ≡ true
+new-bounds : (s : Shape) (t : Trial) (k : ℕ) → number-allowed (t .number) ≡ true → coordinates-allowed t ≡ true
     → k ≤ box (reference s) → RowBounds s (record { trial = t; kept = k })
 unfolding row-allowed
 new-bounds s t k n c l = row-bounds s _ (both-intro _ _ n (both-intro _ _ c (le-leb k (box (reference s)) l)))

@@ -67,7 +67,7 @@ insert-overruns a t = either (ltb (box-of a) (a .sum + insert-gain a t)) (falls-
 unfoldable pub admission-rows : Archive → Trial → ℕ → ℕ
 admission-rows a t rest =
     guard (not (number-allowed (t .number))) 5
-    (guard (not (coordinates-allowed (a .shape) t)) 6
+    (guard (not (coordinates-allowed t)) 6
     (guard (held (t .number) (held-trials a)) 7 (guard (eqb (length (a .rows)) (a .shape .capacity)) 8 rest)))
 
 -- The rows of insert, in the table's order.
@@ -145,8 +145,8 @@ joint-rows a m n =
     guard (not (both (held m (held-trials a)) (held n (held-trials a)))) 9 (guard (eqb m n) 10 0)
 
 -- Gain of a point (a trial's number does not matter to it).
-unfoldable pub gain-rows : Archive → Trial → ℕ
-gain-rows a t = guard (not (coordinates-allowed (a .shape) t)) 6 0
+unfoldable pub gain-rows : Trial → ℕ
+gain-rows t = guard (not (coordinates-allowed t)) 6 0
 
 -- "Share: the kept total (word 5) × 1,000,000 divided by the box, rounded down."
 unfoldable pub share-of : Archive → ℕ

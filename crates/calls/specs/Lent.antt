@@ -82,7 +82,7 @@ unfoldable pub joint : List ℕ → ℕ → ℕ → Answer
 joint w m n = answer (archive-rows w (joint-rows (read w) m n)) (joint-of (read w) m n)
 
 unfoldable pub gain-answer : List ℕ → Trial → Answer
-gain-answer w t = answer (archive-rows w (gain-rows (read w) t)) (insert-gain (read w) t)
+gain-answer w t = answer (archive-rows w (gain-rows t)) (insert-gain (read w) t)
 
 unfoldable pub share : List ℕ → Answer
 share w = answer (archive-rows w 0) (share-of (read w))

@@ -6,7 +6,6 @@ use mathlib.Core.Option.{Option, none, some}
 use lib.Dec.{eqb}
 use Rattle.slices.specs.Choices.{either}
 use Rattle.text.specs.Lines.{Numbers}
-use Rattle.words.specs.Archive.{Shape}
 use Rattle.words.specs.Format.{guard, number-allowed, coordinates-allowed}
 use Rattle.card.specs.Card.{trial-on, due}
 
@@ -22,8 +21,8 @@ taken card zero m = false
 taken card (suc n) m = either (eqb (number-due (due card (n + 2))) m) (taken card n m)
 
 -- The row that turns a further line down, behind so many trials; `held` says whether one of them has its number.
-unfoldable pub further-rows : Shape → ℕ → Bool → Option Numbers → ℕ
-further-rows s count held none = 15
-further-rows s count held (some v) =
+unfoldable pub further-rows : (capacity count : ℕ) → Bool → Option Numbers → ℕ
+further-rows capacity count held none = 15
+further-rows capacity count held (some v) =
     guard (not (number-allowed (v .first))) 5
-    (guard (not (coordinates-allowed s (trial-on v))) 6 (guard held 7 (guard (eqb count (s .capacity)) 8 0)))
+    (guard (not (coordinates-allowed (trial-on v))) 6 (guard held 7 (guard (eqb count capacity) 8 0)))

@@ -91,9 +91,9 @@ fn held(card: &[u8], count: usize, number: u64, met: bool) -> bool
 }
 
 // A further line, behind `count` others: rows 15 and 5 to 8.
-fn further_row(card: &[u8], s: Shape, count: usize, l: Line, met: bool) -> u64
+fn further_row(card: &[u8], capacity: u64, count: usize, l: Line, met: bool) -> u64
     requires { ⌜ (count ≤ length (now card)) × (met ≡ false → taken (now card) count (number-due (some (numbers-of l))) ≡ false) ⌝ }
-    ensures { λ r. ⌜ r ≡ further-rows (as-shape s) count (taken (now (card .entry)) count (number-due (some (numbers-of l)))) (numbers-of l) ⌝ }
+    ensures { λ r. ⌜ r ≡ further-rows capacity count (taken (now (card .entry)) count (number-due (some (numbers-of l)))) (numbers-of l) ⌝ }
 {
     let Line::Values {
         first,
@@ -112,7 +112,7 @@ fn further_row(card: &[u8], s: Shape, count: usize, l: Line, met: bool) -> u64
         kept: 0,
     };
     let allowed = number_allowed(first);
-    let inside = coordinates_allowed(s, row);
+    let inside = coordinates_allowed(row);
     let known = held(card, count, first, met);
     guard(
         !allowed,
@@ -120,7 +120,7 @@ fn further_row(card: &[u8], s: Shape, count: usize, l: Line, met: bool) -> u64
         guard(
             !inside,
             6,
-            guard(known, 7, guard(count as u64 == s.capacity, 8, 0)),
+            guard(known, 7, guard(count as u64 == capacity, 8, 0)),
         ),
     )
 }
@@ -133,7 +133,7 @@ fn judge_further(card: &[u8], s: Shape) -> Loaded
     let mut count: usize = 0;
     while let Due::Next(l) = read_line(card, count + 2) {
         let met = mark(&mut table, number_on(l));
-        let turned = further_row(card, s, count, l, met);
+        let turned = further_row(card, s.capacity, count, l, met);
         if turned != 0 {
             return refused(turned, (count + 2) as u64);
         }

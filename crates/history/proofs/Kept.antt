@@ -91,9 +91,9 @@ module _ (s : Shape) (rest w : List ℕ) (b : Book) (h : Holds s rest b w) where
   gain-is p =
       gain-same _ _ _ (point p) same-points ∙ ap (λ q. gain (reference q) (points (b .trials)) (point p)) shape-is
 
-  gain-passes : (p : Trial) → coordinates-allowed s p ≡ true → gain-rows (read w) p ≡ 0
+  gain-passes : (p : Trial) → coordinates-allowed p ≡ true → gain-rows p ≡ 0
   unfolding gain-rows guard
-  gain-passes p c = ap (λ q. guard (not (coordinates-allowed q p)) 6 0) shape-is ∙ rw c
+  gain-passes p c = rw c
 
   pub keeps-counts : KeepsCounts w s (b .trials)
   keeps-counts =
@@ -104,6 +104,6 @@ module _ (s : Shape) (rest w : List ℕ) (b : Book) (h : Holds s rest b w) where
         joint = λ t u mt mu d.
             joint-answers w passes (t .number) (u .number) (survivor-held t mt) (survivor-held u mu) d
             ∙ ap (λ k. record { refusal = 0; value = k }) (joint-is t u mt mu);
-        gain = λ p c. unfold Lent.gain-answer answer in rw (passes (gain-rows (read w) p), gain-passes p c, gain-is p);
+        gain = λ p c. unfold Lent.gain-answer answer in rw (passes (gain-rows p), gain-passes p c, gain-is p);
         audit = unfold Lent.audit answer holds in rw (passes 0, reads, counted-audited (fresh-archive b) (fresh-counted b));
       }

@@ -25,7 +25,7 @@ unfolding AllMet Met small usual done answers asked step-answer step-words Lent.
     ordered held distinct sound-rows zeros unused records-allowed archive-rows header record-words records extent layout read-row
     read-rows read-shape read behind trials points pick either ascends before cover total contribution joint gain both
     holds dominates sum cells count box
-small-met = (refl, (refl, (refl, (refl, (refl, (refl, (refl, (refl, (refl, tt)))))))))
+small-met = (refl, (refl, (refl, (refl, (refl, (refl, (refl, (refl, (refl, (refl, tt))))))))))
 
 -- The largest reference: the archive just started, the one trial, and the archive that holds it.
 far : Shape
@@ -60,7 +60,7 @@ no-overrun = rw all-cells (unfold empty far in refl)
 
 no-row : insert-rows (empty far) origin ≡ 0
 unfolding insert-rows admission-rows
-no-row = rw no-overrun (unfold guard within number-allowed coordinates-allowed dominates both held trials empty far origin in refl)
+no-row = rw no-overrun (unfold guard within each number-allowed coordinates-allowed both held trials empty far origin in refl)
 
 well-formed : archive-rows fresh-words 0 ≡ 0
 unfolding fresh-words read Lent.start Lent.start-rows Lent.leaves guard within shape-allowed each extent both layout

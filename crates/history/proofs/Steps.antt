@@ -1,6 +1,6 @@
 -- One call on words that hold the book's fresh archive: it answers as the book does, and its words hold the fresh
 -- archive of the book after it.
-use Prim.Native.Nat.{ℕ, suc, _+_, _-_, _*_, _≤_, _<_, min}
+use Prim.Native.Nat.{ℕ, suc, _+_, _-_, _*_, _≤_, _<_, min, zero-le}
 use mathlib.Core.Path.{_≡_, refl, sym, ap, _∙_}
 use mathlib.Core.Bool.{Bool, true, false, not, true≢false}
 use mathlib.Core.List.{List, _++_, append-assoc, []}
@@ -8,15 +8,15 @@ use native.Mathlib.Omega.{arith}
 use lib.Dec.{leb, ltb, eqb}
 use lib.ListN.{length, take, drop, length-append, take-append-drop}
 use lib.Seq.{take-append-add, drop-append-add}
-use borrow.Author.Tests.{lt-ltb, le-ltb, ltb-false, not-false, eqb-false}
-use Rattle.slices.proofs.Choices.{not-both}
+use borrow.Author.Tests.{le-leb, lt-ltb, le-ltb, ltb-false, not-false, eqb-false}
+use Rattle.slices.proofs.Choices.{both-comm, not-both}
 use Rattle.slices.specs.Choices.{both, either}
 use Rattle.hypervolume.proofs.Tests.{Compared, below, above, compared}
 use Rattle.words.specs.Archive.{Trial, Shape, Archive}
 use Rattle.words.specs.Layout.{header, layout, extent, word, read, behind}
-use Rattle.words.specs.Format.{guard, within, number-allowed, coordinates-allowed, held, archive-rows}
+use Rattle.words.specs.Format.{guard, within, each, number-allowed, coordinates-allowed, held, archive-rows}
 use Rattle.words.proofs.Reading.{read-layout, length-layout, behind-layout}
-use Rattle.words.proofs.Passed.{Sound, sound-passes, coordinates-by-axis}
+use Rattle.words.proofs.Passed.{Sound, sound-passes}
 use Rattle.words.proofs.Short.{part-short}
 use Rattle.calls.specs.Calls.{held-trials, inserted, insert-overruns, admission-rows, insert-rows, removed, remove-overruns, remove-rows, audited, after-drops, notes, reduce-rows}
 use Rattle.calls.specs.Counted.{counted}
@@ -84,13 +84,16 @@ row-5 : (n : ℕ) → not (number-allowed n) ≡ either (ltb n 1) (ltb 9999999 n
 unfolding number-allowed within
 row-5 n = not-both (leb 1 n) (leb n 9999999) ∙ rw (not-leb 1 n, not-leb n 9999999)
 
-row-6 : (b : Book) (t : Trial)
-    → not (coordinates-allowed (fresh-archive b .shape) t) ≡ either (ltb (b .rx) (t .x)) (either (ltb (b .ry) (t .y)) (ltb (b .rz) (t .z)))
-unfolding fresh-archive counted shape-of-book
-row-6 b t =
-    ap not (coordinates-by-axis (fresh-archive b .shape) t)
-    ∙ not-both (leb (t .x) (b .rx)) (both (leb (t .y) (b .ry)) (leb (t .z) (b .rz)))
-    ∙ rw (not-both (leb (t .y) (b .ry)) (leb (t .z) (b .rz)), not-leb (t .x) (b .rx), not-leb (t .y) (b .ry), not-leb (t .z) (b .rz))
+past : (n : ℕ) → not (within 0 1048576 n) ≡ ltb 1048576 n
+unfolding within both
+past n = rw (le-leb 0 n zero-le) (not-leb n 1048576)
+
+row-6 : (t : Trial) → not (coordinates-allowed t) ≡ either (ltb 1048576 (t .x)) (either (ltb 1048576 (t .y)) (ltb 1048576 (t .z)))
+unfolding coordinates-allowed each both
+row-6 t =
+    ap (λ b. not (both (within 0 1048576 (t .x)) (both (within 0 1048576 (t .y)) b))) (both-comm (within 0 1048576 (t .z)) true)
+    ∙ not-both (within 0 1048576 (t .x)) (both (within 0 1048576 (t .y)) (within 0 1048576 (t .z)))
+    ∙ rw (not-both (within 0 1048576 (t .y)) (within 0 1048576 (t .z)), past (t .x), past (t .y), past (t .z))
 
 row-7 : (n : ℕ) (b : Book) → held n (held-trials (fresh-archive b)) ≡ has n (b .trials)
 row-7 n b = rw (fresh-trials b, sorted-held n (b .trials)) (sym (has-held n (b .trials)))
@@ -226,7 +229,7 @@ module _ (s : Shape) (rest w : List ℕ) (b : Book) (h : Holds s rest b w) where
   step-insert lent t =
       agree-part c (insert-deed t) _
       (λ part whole. agree-guard c _ _ _ _ _ _ _ _ (row-5 (t .number))
-      (λ five. agree-guard c _ _ _ _ _ _ _ _ (row-6 b t)
+      (λ five. agree-guard c _ _ _ _ _ _ _ _ (row-6 t)
       (λ six. agree-guard c _ _ _ _ _ _ _ _ (row-7 (t .number) b)
       (λ seven. agree-guard c _ _ _ _ _ _ _ _ (row-8 b)
       (λ eight. insert-done lent t part whole

@@ -71,12 +71,13 @@ struck n b =
       trials = struck-out n (b .trials);
     }
 
--- Rows 5 to 8, "with held, count, capacity and reference read from the book"; then insert enters the trial.
+-- Rows 5 to 8, "with held, count, capacity and reference read from the book"; then insert enters the trial. "Row 6 is
+-- given only above 1,048,576" (document 02, W-201), so the reference is not asked.
 unfoldable pub book-insert : ℕ → Trial → Book → Turn
 book-insert slice t b =
     row-1 slice b
     (refuse-if (either (ltb (t .number) 1) (ltb 9999999 (t .number))) 5 b
-    (refuse-if (either (ltb (b .rx) (t .x)) (either (ltb (b .ry) (t .y)) (ltb (b .rz) (t .z)))) 6 b
+    (refuse-if (either (ltb 1048576 (t .x)) (either (ltb 1048576 (t .y)) (ltb 1048576 (t .z)))) 6 b
     (refuse-if (has (t .number) (b .trials)) 7 b
     (refuse-if (eqb (length (b .trials)) (b .capacity)) 8 b
     (record { book = entered t b; reply = record { refusal = 0; value = 0; notes = [] } })))))

@@ -32,6 +32,6 @@ pub record KeepsCounts (w : List ℕ) (s : Shape) (trials : List Trial) : Type 0
   pub joint : (t u : Trial) → List·Memᴰ t trials → List·Memᴰ u trials → (t .number ≡ u .number → ⊥)
       → Lent.joint w (t .number) (u .number)
       ≡ record { refusal = 0; value = Counts.joint (reference s) (points trials) (point t) (point u) }
-  pub gain : (p : Trial) → coordinates-allowed s p ≡ true
+  pub gain : (p : Trial) → coordinates-allowed p ≡ true
       → Lent.gain-answer w p ≡ record { refusal = 0; value = Counts.gain (reference s) (points trials) (point p) }
   pub audit : Lent.audit w ≡ record { refusal = 0; value = 1 }

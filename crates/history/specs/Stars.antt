@@ -89,13 +89,16 @@ small =
     star usual (gives total (0 ∷ []) ∷ gives least (14 ∷ 0 ∷ 0 ∷ []) ∷ [])
     -- 2. "(0,0,0): total and contribution 64."
     ∷ star usual (done (insert 1 0 0 0) ∷ gives total (64 ∷ []) ∷ gives (contribution 1) (64 ∷ []) ∷ [])
-    -- 3. "(4,0,0): accepted, contributes 0. (5,0,0): 6."
+    -- 3. "(4,0,0): accepted, contributes 0." And since document 02, W-201: "(5,0,0) is accepted and contributes 0."
     -- Least tells a trial that contributes 0 from none held.
     ∷ star usual
-    (done (insert 1 4 0 0)
+    (done (insert 1 4 0 0) ∷ gives (contribution 1) (0 ∷ []) ∷ gives least (0 ∷ 1 ∷ 0 ∷ []) ∷ [])
+    ∷ star usual
+    (gives (gain 5 0 0) (0 ∷ 0 ∷ [])
+    ∷ done (insert 1 5 0 0)
     ∷ gives (contribution 1) (0 ∷ [])
     ∷ gives least (0 ∷ 1 ∷ 0 ∷ [])
-    ∷ gives (insert 2 5 0 0) (6 ∷ [])
+    ∷ gives total (0 ∷ [])
     ∷ [])
     -- 4. "(1,1,1) twice, as 1 and 2: total 27, both 0. After 2 is removed, 1 has 27."
     ∷ star usual

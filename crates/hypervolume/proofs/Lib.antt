@@ -3,6 +3,7 @@ pub mod Sums
 pub mod Tests
 pub mod Dominance
 pub mod Counting
+pub mod Beyond
 pub mod Skips
 pub mod Axes
 pub mod Points

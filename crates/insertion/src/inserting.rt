@@ -14,7 +14,6 @@ use words::find;
 use words::number_allowed;
 use words::reference_of;
 use words::refusal;
-use words::shape_of;
 ghost use mathlib.Core.Path.{_≡_};
 ghost use mathlib.Core.List.{_++_};
 ghost use Prim.Native.Nat.{ℕ, _≤_};
@@ -36,7 +35,7 @@ fn admission(w: &[u64], row: Row) -> u64
     if !number_allowed(row.number) {
         return 5;
     }
-    if !coordinates_allowed(shape_of(w), row) {
+    if !coordinates_allowed(row) {
         return 6;
     }
     let place = find(w, row.number);

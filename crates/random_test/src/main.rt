@@ -6,10 +6,10 @@ use testing::one;
 use testing::point_at;
 ghost use Prim.Native.Nat.{_≤_};
 
-// The book has a place for each trial 1 to 8, three coordinates: 8 where the trial is not held, so that it dominates no
-// cell. Place 0 stays so.
+// The book has a place for each trial 1 to 8, three coordinates: 2,000,000 where the trial is not held, so that it
+// dominates no cell. Place 0 stays so.
 fn held(book: &[u32], n: usize) -> bool {
-    point_at(book, n).at[0] < 8
+    point_at(book, n).at[0] < 2000000
 }
 
 fn write(book: &mut [u32], i: usize, x: u32) {
@@ -27,7 +27,13 @@ fn enter(book: &mut [u32], n: usize, p: Point) {
 }
 
 fn forget(book: &mut [u32], n: usize) {
-    enter(book, n, Point { at: [8, 8, 8] });
+    enter(
+        book,
+        n,
+        Point {
+            at: [2000000, 2000000, 2000000],
+        },
+    );
 }
 
 // The cells that the trial alone dominates; 0 where it is not held.
@@ -100,9 +106,18 @@ fn agrees(book: &[u32], reference: Point, w: &[u64], step: usize) -> bool {
     right == 16 && at(w, 5) == total
 }
 
-// A coordinate up to the reference, often half of it.
+// A coordinate: a third of them beyond the reference, by one, by two or at the limit; the others up to it, often half.
 fn coordinate(set: u64, axis: u64, i: u64, reference: u32) -> u32 {
-    let x = (noise(set, axis, i) % 8) as u32;
+    let chosen = noise(set, axis, i);
+    if chosen / 8 % 3 == 0 {
+        let past = (chosen / 24 % 3) as u32;
+        return if past < 2 {
+            reference % 8 + 1 + past
+        } else {
+            1048576
+        };
+    }
+    let x = (chosen % 8) as u32;
     if x <= reference { x } else { reference / 2 }
 }
 
@@ -191,7 +206,7 @@ fn lives(book: &mut [u32], reference: Point, w: &mut [u64], set: u64) -> bool {
 
 // The archive of this number.
 fn archive_agrees(set: u64) -> bool {
-    let mut book = [8u32; 27];
+    let mut book = [2000000u32; 27];
     let mut w = [7u64; 48];
     let reference = Point {
         at: [

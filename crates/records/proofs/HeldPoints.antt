@@ -13,7 +13,7 @@ use Rattle.words.specs.Archive.{Trial, Row, Shape, Archive, point, reference, t
 use Rattle.words.specs.Layout.{record-words, read, word}
 use Rattle.words.specs.Format.{archive-rows, row-allowed, rows-allowed, ordered}
 use Rattle.words.specs.Places.{rows-before}
-use Rattle.words.proofs.Passed.{Sound, ShapeBounds, row-bounds, shape-bounds, coordinates-small}
+use Rattle.words.proofs.Passed.{Sound, row-bounds, shape-bounds, coordinates-small}
 use Rattle.calls.proofs.Known.{known}
 use Rattle.calls.proofs.Order.{Ascent, lower, level, ascent}
 use Rattle.records.specs.Columns.{field-of, column, leave-out}
@@ -45,12 +45,12 @@ column-each s (r ∷ rows) h zero = row-bounds s r (both-true (row-allowed s r) 
 column-each s (r ∷ rows) h (suc i) = column-each s rows (both-true (row-allowed s r) (rows-allowed s rows) h .1) i
 
 -- No coordinate of allowed records is above 1,048,576.
-points-small : (s : Shape) (rows : List Row) → ShapeBounds s → rows-allowed s rows ≡ true → (k axis : ℕ) → getD (getD (points (trials rows)) k []) axis 0 ≤ 1048576
+points-small : (s : Shape) (rows : List Row) → rows-allowed s rows ≡ true → (k axis : ℕ) → getD (getD (points (trials rows)) k []) axis 0 ≤ 1048576
 unfolding points trials rows-allowed
-points-small s [] h b k axis = zero-le
-points-small s (r ∷ rows) h b zero axis =
-    coordinates-small s (r .trial) h (row-bounds s r (both-true (row-allowed s r) (rows-allowed s rows) b .0) .coordinates) axis
-points-small s (r ∷ rows) h b (suc k) axis = points-small s rows h (both-true (row-allowed s r) (rows-allowed s rows) b .1) k axis
+points-small s [] b k axis = zero-le
+points-small s (r ∷ rows) b zero axis =
+    coordinates-small (r .trial) (row-bounds s r (both-true (row-allowed s r) (rows-allowed s rows) b .0) .coordinates) axis
+points-small s (r ∷ rows) b (suc k) axis = points-small s rows (both-true (row-allowed s r) (rows-allowed s rows) b .1) k axis
 
 -- Trials in the archive's order ascend in z.
 before-z : (t u : Trial) → before t u ≡ true → t .z ≤ u .z
@@ -71,26 +71,26 @@ points-rising (r ∷ s ∷ rows) o (suc k) l =
     points-rising (s ∷ rows) (both-true (before (r .trial) (s .trial)) (ordered (trials (s ∷ rows))) o .1) k (omega arith)
 
 -- The points of at most 512 records that are allowed and in order.
-pub points-sorted : (s : Shape) (rows : List Row) → ShapeBounds s → length rows ≤ 512 → rows-allowed s rows ≡ true → ordered (trials rows) ≡ true → Sorted (points (trials rows))
-points-sorted s rows h few allowed rising =
+pub points-sorted : (s : Shape) (rows : List Row) → length rows ≤ 512 → rows-allowed s rows ≡ true → ordered (trials rows) ≡ true → Sorted (points (trials rows))
+points-sorted s rows few allowed rising =
     let size : length (points (trials rows)) ≡ length rows = length-points rows in
     record {
       few = omega arith;
       axes = λ k l. ap length (points-at rows k blank (let m : k < length rows = omega arith in m));
-      small = points-small s rows h allowed;
+      small = points-small s rows allowed;
       rising = λ k l. points-rising rows rising k (omega arith);
     }
 
 pub sound-sorted : (a : Archive) → Sound a → Sorted (points (trials (a .rows)))
 sound-sorted a h =
     let bounds = shape-bounds (a .shape) (h .shaped) in
-    points-sorted (a .shape) (a .rows) bounds (omega (arith, h .held-within, bounds .capacity-high)) (h .rows-fit) (h .in-order)
+    points-sorted (a .shape) (a .rows) (omega (arith, h .held-within, bounds .capacity-high)) (h .rows-fit) (h .in-order)
 
 -- All records but one.
 pub left-sorted : (a : Archive) (k : ℕ) → Sound a → Sorted (points (trials (leave-out k (a .rows))))
 left-sorted a k h =
     let bounds = shape-bounds (a .shape) (h .shaped) in
-    points-sorted (a .shape) (leave-out k (a .rows)) bounds
+    points-sorted (a .shape) (leave-out k (a .rows))
     (omega (arith, left-fewer (a .rows) k, h .held-within, bounds .capacity-high))
     (left-allowed (a .shape) (a .rows) k (h .rows-fit))
     (left-ordered (a .rows) k (h .in-order) (h .apart))

@@ -53,7 +53,7 @@ row-shown : (s : Shape) → ShapeBounds s → (r : Row) → RowBounds s r
     → LineFits (r .trial .number) (r .trial .x) (r .trial .y) (r .trial .z) (r .kept)
 row-shown s b r h =
     let kept : r .kept ≤ 2 ^ 60 = le-trans (h .kept-high) (box-bound s b) in
-    let small = coordinates-small s (r .trial) b (h .coordinates) in
+    let small = coordinates-small (r .trial) (h .coordinates) in
     record { first = omega arith; second = omega (arith, small 0); third = omega (arith, small 1); fourth = omega (arith, small 2); last = lt-of-le-of-lt kept (lit< tt) }
 
 head-shown : (a : Archive) → Sound a → LineFits (length (a .rows)) (a .shape .rx) (a .shape .ry) (a .shape .rz) (a .sum)

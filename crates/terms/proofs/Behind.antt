@@ -233,7 +233,7 @@ long-alike (ArchiveCall.joint m n) v w h =
     let same = answers-alike (λ a. joint-rows a m n) (λ a. joint-of a m n) v w h in
     record { answer = ap as-numbers same; words = h .same; other = refl }
 long-alike (ArchiveCall.gain p) v w h =
-    let same = answers-alike (λ a. gain-rows a p) (λ a. insert-gain a p) v w h in
+    let same = answers-alike (λ a. gain-rows p) (λ a. insert-gain a p) v w h in
     record { answer = ap as-numbers same; words = h .same; other = refl }
 long-alike ArchiveCall.share v w h =
     let same = answers-alike (λ a. 0) share-of v w h in

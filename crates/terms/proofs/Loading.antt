@@ -45,12 +45,12 @@ book-entered slice t b =
     (unless-refused _ _ _ _ _ (unless-refused _ _ _ _ _ (unless-refused _ _ _ _ _ (λ e. refl)))))
 
 -- One insertion that is done, as a call that is lent all the words.
-record Inserts (s : Shape) (rest w : List ℕ) (b : Book) (size : ℕ) (t : Trial) : Type 0 where
-  answer : answered (on-words (Call.insert size t) w) ≡ done
-  words : words-after (Call.insert size t) w ≡ Lent.insert w t .words
-  holds : Holds s rest (entered t b) (Lent.insert w t .words)
+pub record Inserts (s : Shape) (rest w : List ℕ) (b : Book) (size : ℕ) (t : Trial) : Type 0 where
+  pub answer : answered (on-words (Call.insert size t) w) ≡ done
+  pub words : words-after (Call.insert size t) w ≡ Lent.insert w t .words
+  pub holds : Holds s rest (entered t b) (Lent.insert w t .words)
 
-inserts : (s : Shape) (rest w : List ℕ) (b : Book) (size : ℕ) → length w ≡ size → Holds s rest b w → (t : Trial)
+pub inserts : (s : Shape) (rest w : List ℕ) (b : Book) (size : ℕ) → length w ≡ size → Holds s rest b w → (t : Trial)
     → Lent.insert w t .refusal ≡ 0 → Inserts s rest w b size t
 unfolding on-words words-after answered done lent-of request book-turn expected
 inserts s rest w b size long h t e =
@@ -70,7 +70,7 @@ inserts s rest w b size long h t e =
     }
 
 -- The trials on these lines, and their insertions.
-abbrev trials-on : List (Option Numbers) → List Trial
+abbrev pub trials-on : List (Option Numbers) → List Trial
 trials-on ls = map trial-on (map numbers-on ls)
 
 abbrev insertions : ℕ → List Trial → List Call

@@ -11,8 +11,8 @@ use lib.ListN.{length, getD, take, drop, replicate, length-append, length-drop, 
 use lib.Seq.{drop-at, take-at, drop-drop, take-take, take-add, slice, length-slice}
 use borrow.Author.Tests.{leb-true, ltb-false, eqb-true, le-leb, le-ltb, not-false}
 use Rattle.slices.specs.Choices.{both}
-use Rattle.hypervolume.specs.Cells.{box, dominates}
-use Rattle.slices.proofs.Choices.{both-true, both-intro, both-comm}
+use Rattle.hypervolume.specs.Cells.{box}
+use Rattle.slices.proofs.Choices.{both-true, both-intro}
 use Rattle.words.specs.Archive.{Trial, point, Row, Shape, reference, Archive, trials}
 use Rattle.words.specs.Format.{guard, within, each, shape-allowed, number-allowed, coordinates-allowed, header-allowed, row-allowed, rows-allowed, ordered, distinct, sound-rows, zeros, unused, records-allowed, archive-rows}
 use Rattle.words.specs.Layout.{header, records, extent, layout, word, read-row, read-rows, read-shape, read, behind}
@@ -66,29 +66,15 @@ shape-bounds s e =
 pub reference-small : (s : Shape) (r : List ℕ) → shape-allowed s ≡ true → r ≡ reference s → (axis : ℕ) → getD r axis 0 ≤ 1048576
 reference-small s r e is axis = rw is (shape-bounds s e .reference-high axis)
 
--- A point that dominates another is at most it, by the axis.
-pub dominates-axis : (p q : List ℕ) → length p ≤ length q → dominates p q ≡ true → (axis : ℕ) → getD p axis 0 ≤ getD q axis 0
-unfolding dominates
-dominates-axis [] q l e axis = zero-le
-dominates-axis (x ∷ p) [] l e axis = absurd (let no : ⊥ = omega arith in no)
-dominates-axis (x ∷ p) (y ∷ q) l e zero = leb-true x y (both-true _ _ e .0)
-dominates-axis (x ∷ p) (y ∷ q) l e (suc axis) = dominates-axis p q (omega arith) (both-true _ _ e .1) axis
-
 -- No coordinate that is allowed is above 1,048,576.
-pub coordinates-small : (s : Shape) (t : Trial) → ShapeBounds s → coordinates-allowed s t ≡ true → (axis : ℕ) → getD (point t) axis 0 ≤ 1048576
+pub coordinates-small : (t : Trial) → coordinates-allowed t ≡ true → (axis : ℕ) → getD (point t) axis 0 ≤ 1048576
 unfolding coordinates-allowed
-coordinates-small s t b e axis = le-trans (dominates-axis (point t) (reference s) (lit≤ tt) e axis) (b .reference-high axis)
-
--- The coordinates compared one axis after the other.
-pub coordinates-by-axis : (s : Shape) (t : Trial) → coordinates-allowed s t ≡ both (leb (t .x) (s .rx)) (both (leb (t .y) (s .ry)) (leb (t .z) (s .rz)))
-unfolding coordinates-allowed dominates both
-coordinates-by-axis s t =
-    ap (λ b. both (leb (t .x) (s .rx)) (both (leb (t .y) (s .ry)) b)) (both-comm (leb (t .z) (s .rz)) true)
+coordinates-small t e axis = each-bounds 0 1048576 (point t) e axis .1
 
 pub record RowBounds (s : Shape) (r : Row) : Type 0 where
   pub number-low : 1 ≤ r .trial .number
   pub number-high : r .trial .number ≤ 9999999
-  pub coordinates : coordinates-allowed s (r .trial) ≡ true
+  pub coordinates : coordinates-allowed (r .trial) ≡ true
   pub kept-high : r .kept ≤ box (reference s)
 
 pub row-bounds : (s : Shape) (r : Row) → row-allowed s r ≡ true → RowBounds s r

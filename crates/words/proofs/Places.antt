@@ -3,17 +3,17 @@
 use Prim.Native.Nat.{ℕ, _+_, _*_, _≤_, _<_}
 use mathlib.Core.Path.{_≡_, refl, sym, ap, _∙_}
 use mathlib.Core.List.{List, _∷_, _++_, []}
-use native.Mathlib.Nat.{add-zero, le-trans}
+use native.Mathlib.Nat.{add-zero}
 use native.Mathlib.Omega.{arith}
-use lib.Dec.{ltb, lit≤}
+use lib.Dec.{ltb}
 use lib.ListN.{length, getD, drop}
 use lib.Seq.{drop-drop, getD-drop}
-use Rattle.words.specs.Archive.{Row, point, reference, trials}
-use Rattle.words.specs.Format.{held, coordinates-allowed, archive-rows}
-use Rattle.words.specs.Layout.{word, read-row, read-rows, read-shape, read}
+use Rattle.words.specs.Archive.{Row, point, trials}
+use Rattle.words.specs.Format.{held, archive-rows}
+use Rattle.words.specs.Layout.{word, read-row, read-rows, read}
 use Rattle.words.specs.Places.{as-trial, as-record, row-at, rows-before, Found}
 use Rattle.words.specs.declared.rows.Record.{Record}
-use Rattle.words.proofs.Passed.{passed, passed-row, dominates-axis}
+use Rattle.words.proofs.Passed.{passed, passed-row, coordinates-small}
 use Rattle.words.proofs.Reading.{read-rows-append, read-rows-at}
 
 -- A record of five numbers.
@@ -37,15 +37,10 @@ pub rows-before-more : (w : List ℕ) (i : ℕ) → rows-before w (i + 1) ≡ ro
 unfolding row-at read-rows
 rows-before-more w i = read-rows-append i 1 (drop 8 w) ∙ rw (drop-drop (5 * i) 8 w)
 
--- In words that rows 1 to 3 let pass no coordinate of a record is above the reference, nor above 1,048,576.
-module _ (w : List ℕ) (i : ℕ) (p : archive-rows w 0 ≡ 0) (l : i < word w 0) where
-  pub held-under : (axis : ℕ) → getD (point (row-at w i .trial)) axis 0 ≤ getD (reference (read-shape w)) axis 0
-  unfolding row-at coordinates-allowed
-  held-under axis =
-      dominates-axis (point (row-at w i .trial)) (reference (read-shape w)) (lit≤ tt) (passed-row w (passed w p) i l .coordinates) axis
-
-  pub held-small : (axis : ℕ) → getD (point (row-at w i .trial)) axis 0 ≤ 1048576
-  held-small axis = le-trans (held-under axis) (passed w p .bounds .reference-high axis)
+-- In words that rows 1 to 3 let pass no coordinate of a record is above 1,048,576.
+pub held-small : (w : List ℕ) (i : ℕ) → archive-rows w 0 ≡ 0 → i < word w 0 → (axis : ℕ) → getD (point (row-at w i .trial)) axis 0 ≤ 1048576
+unfolding row-at
+held-small w i p l axis = coordinates-small (row-at w i .trial) (passed-row w (passed w p) i l .coordinates) axis
 
 -- A point of three numbers, taken apart for a trial or a record.
 pub point-of-trial : (number : ℕ) (p : List ℕ) → length p ≡ 3 → point (as-trial number p) ≡ p

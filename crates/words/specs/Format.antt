@@ -7,7 +7,7 @@ use lib.Dec.{leb, ltb, eqb}
 use lib.ListN.{length}
 use lib.Seq.{slice}
 use Rattle.slices.specs.Choices.{both, either}
-use Rattle.hypervolume.specs.Cells.{box, dominates}
+use Rattle.hypervolume.specs.Cells.{box}
 use Rattle.words.specs.Archive.{Trial, Row, Shape, point, reference, trials, before}
 use Rattle.words.specs.Layout.{word, read, read-shape, extent}
 
@@ -33,10 +33,9 @@ shape-allowed s = both (within 1 512 (s .capacity)) (each (within 1 1048576) (re
 unfoldable pub number-allowed : ℕ → Bool
 number-allowed n = within 1 9999999 n
 
--- Row 6, and part of row 3: "coordinates run from 0 to the reference on that axis, both allowed": on every axis the
--- point is at most the reference.
-unfoldable pub coordinates-allowed : Shape → Trial → Bool
-coordinates-allowed s t = dominates (point t) (reference s)
+-- Row 6, and part of row 3: "coordinates up to 1,048,576 whatever the reference" (document 02, W-201), on every axis.
+unfoldable pub coordinates-allowed : Trial → Bool
+coordinates-allowed t = each (within 0 1048576) (point t)
 
 -- Row 2: "capacity, a reference word or words 6 and 7 not as above; count above capacity; total above the box".
 unfoldable pub header-allowed : List ℕ → Bool
@@ -50,7 +49,7 @@ header-allowed w =
 unfoldable pub row-allowed : Shape → Row → Bool
 row-allowed s r =
     both (number-allowed (r .trial .number))
-    (both (coordinates-allowed s (r .trial)) (leb (r .kept) (box (reference s))))
+    (both (coordinates-allowed (r .trial)) (leb (r .kept) (box (reference s))))
 
 unfoldable pub rows-allowed : Shape → List Row → Bool
 rows-allowed s [] = true

@@ -53,10 +53,13 @@ pub fn number_allowed(n: u64) -> bool
 }
 
 // Row 6, and part of row 3.
-pub fn coordinates_allowed(s: Shape, row: Row) -> bool
-    ensures { λ r. ⌜ r ≡ coordinates-allowed (as-shape s) (as-row row .trial) ⌝ }
+pub fn coordinates_allowed(row: Row) -> bool
+    ensures { λ r. ⌜ r ≡ coordinates-allowed (as-row row .trial) ⌝ }
 {
-    both(row.x <= s.rx, both(row.y <= s.ry, row.z <= s.rz))
+    both(
+        within(0, 1048576, row.x),
+        both(within(0, 1048576, row.y), within(0, 1048576, row.z)),
+    )
 }
 
 // The box, at most 2^60 cells: the origin dominates them all.
@@ -90,7 +93,7 @@ fn row_allowed(s: Shape, cells: u64, row: Row) -> bool
 {
     both(
         number_allowed(row.number),
-        both(coordinates_allowed(s, row), row.kept <= cells),
+        both(coordinates_allowed(row), row.kept <= cells),
     )
 }
 

@@ -29,7 +29,8 @@ impl Book {
         if !(1..=MAX_NUMBER).contains(&number) {
             return 5;
         }
-        if (0..3).any(|axis| point[axis] > self.reference[axis]) {
+        // Document 02, W-201: "Row 6 is given only above 1,048,576."
+        if point[0] > 1_048_576 || point[1] > 1_048_576 || point[2] > 1_048_576 {
             return 6;
         }
         if self.held(number) {

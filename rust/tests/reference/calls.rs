@@ -1,8 +1,9 @@
 //! The calls on words, written from document 01's text: "The archive's words", "Calls" and
-//! "Where each call is turned down". An `Err` is a refusal number; lent memory is written only
+//! "Where each call is turned down", with document 02's changes. An `Err` is a refusal number; lent memory is written only
 //! when nothing can be refused any more.
 
-use super::{box_of, gain_and_joints, totals, Point, MAX_CAPACITY, MAX_NUMBER, MAX_REFERENCE};
+use super::{box_of, gain_and_joints, totals, Point};
+use super::{MAX_CAPACITY, MAX_COORDINATE, MAX_NUMBER, MAX_REFERENCE};
 
 #[derive(Clone, Debug)]
 pub struct Record {
@@ -32,6 +33,11 @@ pub fn reference_allowed(reference: Point) -> bool {
     reference.iter().all(|r| (1..=MAX_REFERENCE).contains(r))
 }
 
+/// "Row 6 is given only above 1,048,576; row 3 allows the same range" (document 02, W-201).
+pub fn coordinates_allowed(point: Point) -> bool {
+    point.iter().all(|&coordinate| coordinate <= MAX_COORDINATE)
+}
+
 pub fn capacity_allowed(capacity: u64) -> bool {
     (1..=MAX_CAPACITY).contains(&capacity)
 }
@@ -51,7 +57,7 @@ pub fn read(words: &[u64]) -> Result<Archive, u64> {
     let records: Vec<Record> = used.chunks(5).map(record).collect();
     for record in &records {
         refuse_if(!(1..=MAX_NUMBER).contains(&record.number), 3)?;
-        refuse_if((0..3).any(|axis| record.point[axis] > reference[axis]), 3)?;
+        refuse_if(!coordinates_allowed(record.point), 3)?;
         refuse_if(record.contribution > box_of(reference), 3)?;
     }
     refuse_if(records.windows(2).any(|pair| key(&pair[0]) >= key(&pair[1])), 3)?;
@@ -107,7 +113,7 @@ impl Archive {
     /// Rows 5 to 8 and 13, then the insertion.
     pub fn insert(&mut self, number: u64, point: Point) -> Result<(), u64> {
         refuse_if(!(1..=MAX_NUMBER).contains(&number), 5)?;
-        refuse_if((0..3).any(|axis| point[axis] > self.reference[axis]), 6)?;
+        refuse_if(!coordinates_allowed(point), 6)?;
         refuse_if(self.position(number).is_some(), 7)?;
         refuse_if(self.count() == self.capacity, 8)?;
         let (gain, joints) = gain_and_joints(point, &self.points(), self.reference);
@@ -208,7 +214,7 @@ pub fn joint(words: &[u64], first: u64, second: u64) -> Result<u64, u64> {
 
 pub fn gain(words: &[u64], point: Point) -> Result<u64, u64> {
     let archive = read(words)?;
-    refuse_if((0..3).any(|axis| point[axis] > archive.reference[axis]), 6)?;
+    refuse_if(!coordinates_allowed(point), 6)?;
     Ok(gain_and_joints(point, &archive.points(), archive.reference).0)
 }
 

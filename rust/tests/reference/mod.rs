@@ -1,4 +1,4 @@
-//! Document 01 written out once more, plainly, to compare the library with. Nothing here is
+//! Documents 01 and 02 written out once more, plainly, to compare the library with. Nothing here is
 //! shared with the library, and the cells are counted by other means: one by one where the box
 //! is small, in blocks of a compressed grid where it is not.
 
@@ -21,6 +21,8 @@ pub struct Counts {
 }
 
 pub const MAX_REFERENCE: u64 = 1_048_576;
+/// "Coordinates up to 1,048,576 whatever the reference" (document 02, W-201).
+pub const MAX_COORDINATE: u64 = 1_048_576;
 pub const MAX_CAPACITY: u64 = 512;
 pub const MAX_NUMBER: u64 = 9_999_999;
 
@@ -48,6 +50,7 @@ pub fn totals(trials: &[Point], reference: Point) -> Counts {
 /// The gain of a point over the trials, and its joint contribution with each of them.
 pub fn gain_and_joints(point: Point, trials: &[Point], reference: Point) -> (u64, Vec<u64>) {
     let counts = count(trials, point, reference);
-    let own: u64 = (0..3).map(|axis| reference[axis] - point[axis]).product();
+    let edge = |axis| if point[axis] < reference[axis] { reference[axis] - point[axis] } else { 0 };
+    let own: u64 = (0..3).map(edge).product();
     (own - counts.covered, counts.alone)
 }

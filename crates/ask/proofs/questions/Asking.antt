@@ -92,10 +92,10 @@ module _ (a : Archive) (m n : ℕ) where
   joint-passes e f g = behind-9 e f ∙ guard-no _ 10 0 (ne-eqb m n g)
 
 -- The row of gain.
-pub gain-refused : (a : Archive) (t : Trial) → coordinates-allowed (a .shape) t ≡ false → gain-rows a t ≡ 6
+pub gain-refused : (t : Trial) → coordinates-allowed t ≡ false → gain-rows t ≡ 6
 unfolding gain-rows
-gain-refused a t e = guard-yes _ 6 0 (ap not e)
+gain-refused t e = guard-yes _ 6 0 (ap not e)
 
-pub gain-passes : (a : Archive) (t : Trial) → coordinates-allowed (a .shape) t ≡ true → gain-rows a t ≡ 0
+pub gain-passes : (t : Trial) → coordinates-allowed t ≡ true → gain-rows t ≡ 0
 unfolding gain-rows
-gain-passes a t e = guard-no _ 6 0 (ap not e)
+gain-passes t e = guard-no _ 6 0 (ap not e)

@@ -94,18 +94,18 @@ module _ {card : List ℕ} {s : Shape} {count : ℕ} {table : List ℕ} (j : Jud
       go false q = refl
 
   -- The rows are those of the archive.
-  rows-alike : (v : Numbers) → further-rows s count (taken card count (v .first)) (some v) ≡ admission-rows (j .so-far) (trial-on v) 0
+  rows-alike : (v : Numbers) → further-rows (s .capacity) count (taken card count (v .first)) (some v) ≡ admission-rows (j .so-far) (trial-on v) 0
   unfolding further-rows admission-rows trial-on
   rows-alike v = rw (← j .numbers (v .first), ← j .shape, ← j .long)
 
-  line-refused : (l : Option Numbers) (ls : List (Option Numbers)) {k : ℕ} → k ≡ further-rows s count (taken card count (number-due (some l))) l
+  line-refused : (l : Option Numbers) (ls : List (Option Numbers)) {k : ℕ} → k ≡ further-rows (s .capacity) count (taken card count (number-due (some l))) l
       → (k ≡ 0 → ⊥) → judge-further (j .so-far) (l ∷ ls) ≡ refusal k (count + 2)
   unfolding judge-further further-rows number-due
   line-refused none ls e other = rw (e, j .long)
   line-refused (some v) ls {k} e other =
       rw (← rows-alike v, ← e, j .long) (in-turn-refused k (count + 2) _ other)
 
-  line-passed : (v : Numbers) (ls : List (Option Numbers)) → further-rows s count (taken card count (v .first)) (some v) ≡ 0
+  line-passed : (v : Numbers) (ls : List (Option Numbers)) → further-rows (s .capacity) count (taken card count (v .first)) (some v) ≡ 0
       → judge-further (j .so-far) (some v ∷ ls) ≡ judge-further (inserted (j .so-far) (trial-on v)) ls
   unfolding judge-further
   line-passed v ls e = in-turn-passed _ _ _ (sym (rows-alike v) ∙ e)
@@ -118,7 +118,7 @@ module _ {card : List ℕ} {s : Shape} {count : ℕ} {table : List ℕ} (j : Jud
       rw (here, next) at (lines-due card (inside card e))
 
   pub judged-stop : {l : Option Numbers} {k : ℕ} {r : Loaded} → some l ≡ due card (count + 2)
-      → k ≡ further-rows s count (taken card count (number-due (some l))) l → (k ≡ 0 → ⊥)
+      → k ≡ further-rows (s .capacity) count (taken card count (number-due (some l))) l → (k ≡ 0 → ⊥)
       → r ≡ record { refusal = k; line = count + 2; count = 0 } → r ≡ answer-of (judge-further (empty s) (lines (drop 33 card)))
   judged-stop {l} here e other said =
       answers-refusal (j .left ∙ ap (judge-further (j .so-far)) (lines-here here) ∙ line-refused l _ e other) said
@@ -155,13 +155,13 @@ module _ {card : List ℕ} {s : Shape} {count : ℕ} {table : List ℕ} (j : Jud
       go false q f = marking .stays m (j .noted m (sym f))
 
   pub judged-more : {l : Option Numbers} {k n : ℕ} {after : List ℕ} → some l ≡ due card (count + 2)
-      → k ≡ further-rows s count (taken card count (number-due (some l))) l → k ≡ 0
+      → k ≡ further-rows (s .capacity) count (taken card count (number-due (some l))) l → k ≡ 0
       → n ≡ number-due (some l) → Marking table after n → length after ≡ length table → Judged card s (count + 1) after
   unfolding further-rows number-due inserted
   judged-more {l} {k} {n} {after} here e done number marking sized =
       go l here (sym e ∙ done) (noted-more here (rw number at marking))
     where
-      go : (l : Option Numbers) → some l ≡ due card (count + 2) → further-rows s count (taken card count (number-due (some l))) l ≡ 0
+      go : (l : Option Numbers) → some l ≡ due card (count + 2) → further-rows (s .capacity) count (taken card count (number-due (some l))) l ≡ 0
           → ((m : ℕ) → taken card (count + 1) m ≡ true → marked after m ≡ true) → Judged card s (count + 1) after
       go none here passed noted = absurd (let no : ⊥ = omega arith in no)
       go (some v) here passed noted =

@@ -20,28 +20,28 @@ module _ (a : Archive) (t : Trial) (rest : ℕ) where
   unfolding admission-rows
   admission-5 five = guard-yes _ 5 _ (ap not five)
 
-  behind-5 : number-allowed (t .number) ≡ true → admission-rows a t rest ≡ guard (not (coordinates-allowed (a .shape) t)) 6 (guard (held (t .number) (held-trials a)) 7 (guard (eqb (length (a .rows)) (a .shape .capacity)) 8 rest))
+  behind-5 : number-allowed (t .number) ≡ true → admission-rows a t rest ≡ guard (not (coordinates-allowed t)) 6 (guard (held (t .number) (held-trials a)) 7 (guard (eqb (length (a .rows)) (a .shape .capacity)) 8 rest))
   unfolding admission-rows
   behind-5 five = guard-no _ 5 _ (ap not five)
 
-  pub admission-6 : number-allowed (t .number) ≡ true → coordinates-allowed (a .shape) t ≡ false → admission-rows a t rest ≡ 6
+  pub admission-6 : number-allowed (t .number) ≡ true → coordinates-allowed t ≡ false → admission-rows a t rest ≡ 6
   admission-6 five six = behind-5 five ∙ guard-yes _ 6 _ (ap not six)
 
-  behind-6 : number-allowed (t .number) ≡ true → coordinates-allowed (a .shape) t ≡ true → admission-rows a t rest ≡ guard (held (t .number) (held-trials a)) 7 (guard (eqb (length (a .rows)) (a .shape .capacity)) 8 rest)
+  behind-6 : number-allowed (t .number) ≡ true → coordinates-allowed t ≡ true → admission-rows a t rest ≡ guard (held (t .number) (held-trials a)) 7 (guard (eqb (length (a .rows)) (a .shape .capacity)) 8 rest)
   behind-6 five six = behind-5 five ∙ guard-no _ 6 _ (ap not six)
 
-  pub admission-7 : number-allowed (t .number) ≡ true → coordinates-allowed (a .shape) t ≡ true → held (t .number) (held-trials a) ≡ true → admission-rows a t rest ≡ 7
+  pub admission-7 : number-allowed (t .number) ≡ true → coordinates-allowed t ≡ true → held (t .number) (held-trials a) ≡ true → admission-rows a t rest ≡ 7
   admission-7 five six seven = behind-6 five six ∙ guard-yes _ 7 _ seven
 
-  pub admission-8 : number-allowed (t .number) ≡ true → coordinates-allowed (a .shape) t ≡ true → held (t .number) (held-trials a) ≡ false → length (a .rows) ≡ a .shape .capacity → admission-rows a t rest ≡ 8
+  pub admission-8 : number-allowed (t .number) ≡ true → coordinates-allowed t ≡ true → held (t .number) (held-trials a) ≡ false → length (a .rows) ≡ a .shape .capacity → admission-rows a t rest ≡ 8
   admission-8 five six seven eight = behind-6 five six ∙ guard-no _ 7 _ seven ∙ guard-yes _ 8 _ (eq-eqb _ _ eight)
 
-  pub admission-passed : number-allowed (t .number) ≡ true → coordinates-allowed (a .shape) t ≡ true → held (t .number) (held-trials a) ≡ false → (length (a .rows) ≡ a .shape .capacity → ⊥) → admission-rows a t rest ≡ rest
+  pub admission-passed : number-allowed (t .number) ≡ true → coordinates-allowed t ≡ true → held (t .number) (held-trials a) ≡ false → (length (a .rows) ≡ a .shape .capacity → ⊥) → admission-rows a t rest ≡ rest
   admission-passed five six seven eight = behind-6 five six ∙ guard-no _ 7 _ seven ∙ guard-no _ 8 _ (ne-eqb _ _ eight)
 
 -- What rows 5 to 8 tell where they pass.
 pub record Admitted (w : List ℕ) (t : Trial) : Type 0 where
-  pub coordinates : coordinates-allowed (read w .shape) t ≡ true
+  pub coordinates : coordinates-allowed t ≡ true
   pub free : word w 0 < word w 1
   pub onward : (rest : ℕ) → admission-rows (read w) t rest ≡ rest
 
@@ -50,7 +50,7 @@ unfolding admission-rows read read-shape
 admitted w t p e =
     let five : number-allowed (t .number) ≡ true = not-false _ (guard-off _ 4 _ e) in
     let e₆ = sym (behind-5 (read w) t 0 five) ∙ e in
-    let six : coordinates-allowed (read w .shape) t ≡ true = not-false _ (guard-off _ 5 _ e₆) in
+    let six : coordinates-allowed t ≡ true = not-false _ (guard-off _ 5 _ e₆) in
     let e₇ = sym (behind-6 (read w) t 0 five six) ∙ e in
     let seven : held (t .number) (held-trials (read w)) ≡ false = guard-off _ 6 _ e₇ in
     let e₈ : guard (eqb (length (read w .rows)) (read w .shape .capacity)) 8 0 ≡ 0 = sym (guard-no _ 7 _ seven) ∙ e₇ in
@@ -68,7 +68,7 @@ admitted w t p e =
 pub admission-same : (a : Archive) (t : Trial) (rest : ℕ) → (admission-rows a t 0 ≡ 0 → ⊥) → admission-rows a t rest ≡ admission-rows a t 0
 unfolding admission-rows guard
 admission-same a t rest n =
-    go (not (number-allowed (t .number))) (not (coordinates-allowed (a .shape) t)) (held (t .number) (held-trials a)) (eqb (length (a .rows)) (a .shape .capacity)) n
+    go (not (number-allowed (t .number))) (not (coordinates-allowed t)) (held (t .number) (held-trials a)) (eqb (length (a .rows)) (a .shape .capacity)) n
   where
     go : (five six seven eight : Bool) → (guard five 5 (guard six 6 (guard seven 7 (guard eight 8 0))) ≡ 0 → ⊥) → guard five 5 (guard six 6 (guard seven 7 (guard eight 8 rest))) ≡ guard five 5 (guard six 6 (guard seven 7 (guard eight 8 0)))
     go true six seven eight n = refl

@@ -40,7 +40,7 @@ guard-requires-4 c κs = search needs
 returns-2 : tie.Need-returns-2
 unfolding further-rows number-due trial-on
 returns-2 c =
-    let at-held = c .before .before .before .before .before in
+    let at-held = c .before .before .before .before in
     rw (
       at-held .before .before .before .before .l .given .1,
       c .guard4 .ensures,

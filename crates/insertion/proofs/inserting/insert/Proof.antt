@@ -8,7 +8,7 @@ use Rattle.words.specs.Format.{archive-rows}
 use Rattle.words.specs.Places.{as-trial}
 use Rattle.calls.specs.Calls.{admission-rows}
 use Rattle.calls.specs.Lent.{trial-of}
-use Rattle.ask.proofs.LoadedPoints.{allowed-small}
+use Rattle.words.proofs.Passed.{coordinates-small}
 use Rattle.insertion.proofs.inserting.Admitting.{admitted}
 use Rattle.insertion.proofs.inserting.Outcomes.{insert-refused, insert-turned, insert-put, insert-same}
 use Rattle.insertion.proofs.inserting.insert.Statement.{statement}
@@ -54,7 +54,7 @@ returns-2 c = insert-turned _ _ _ (sym (c .before .before .before .before .refus
 
 new-requires : tie.Need-new-requires
 new-requires c κs =
-    let small = allowed-small _ _ (passes (c .before)) (admitted _ _ (passes (c .before)) (admits (c .before)) .coordinates) in
+    let small = coordinates-small _ (admitted _ _ (passes (c .before)) (admits (c .before)) .coordinates) in
     (omega (arith, small 0), omega (arith, small 1), omega (arith, small 2))
 
 put-in-requires : tie.Need-put-in-requires

@@ -6,7 +6,7 @@ use borrow.Author.Needs.{needs}
 use borrow.Author.Tests.{not-true, not-false}
 use Rattle.hypervolume.specs.Sorted.{Small}
 use Rattle.words.proofs.Places.{point-of-trial}
-use Rattle.ask.proofs.LoadedPoints.{allowed-small}
+use Rattle.words.proofs.Passed.{coordinates-small}
 use Rattle.insertion.proofs.inserting.Admitting.{admitted}
 use Rattle.insertion.proofs.inserting.Storing.{overruns, fits-box, storing}
 use Rattle.calls.proofs.Answers.{row-13-given, row-13-passed}
@@ -17,7 +17,7 @@ use Rattle.insertion.proofs.inserting.put_in.Tie as tie
 own-small : (s : tie.Start) → Small (s .args .p .at)
 own-small s =
     subst (λ q. Small q) (point-of-trial (s .args .number) (s .args .p .at) (search needs))
-    (allowed-small (s .args .w .now) _ (s .pre .0) (admitted (s .args .w .now) _ (s .pre .0) (s .pre .1) .coordinates))
+    (coordinates-small _ (admitted (s .args .w .now) _ (s .pre .0) (s .pre .1) .coordinates))
 
 slice-aggregate-judge : tie.Need-slice-aggregate-judge
 slice-aggregate-judge c = search needs

@@ -1,10 +1,20 @@
 -- `coordinates_allowed` meets its contract.
-use mathlib.Core.Path.{_∙_, ap, sym}
+use mathlib.Core.Bool.{true}
 use borrow.Author.Needs.{needs}
 use Rattle.slices.specs.Choices.{both}
-use Rattle.words.proofs.Passed.{coordinates-by-axis}
+use Rattle.slices.proofs.Choices.{both-comm}
+use Rattle.words.specs.Format.{within, each, coordinates-allowed}
 use Rattle.words.proofs.check.coordinates_allowed.Statement.{statement}
 use Rattle.words.proofs.check.coordinates_allowed.Tie as tie
+
+within-requires : tie.Need-within-requires
+within-requires c κs = search needs
+
+within-requires-2 : tie.Need-within-requires-2
+within-requires-2 c κs = search needs
+
+within-requires-3 : tie.Need-within-requires-3
+within-requires-3 c κs = search needs
 
 both-requires : tie.Need-both-requires
 both-requires c κs = search needs
@@ -13,7 +23,16 @@ both-requires-2 : tie.Need-both-requires-2
 both-requires-2 c κs = search needs
 
 returns : tie.Need-returns
-returns c = c .both2 .ensures ∙ ap (both _) (c .before .both .ensures) ∙ sym (coordinates-by-axis _ _)
+unfolding coordinates-allowed each both
+returns c = cc (both-comm (within 0 1048576 (c .before .before .before .before .before .args .row .z)) true)
 
 pub coordinates-allowed-spec : {M : Type 1} → statement M
-coordinates-allowed-spec = tie.close (tie.spec both-requires both-requires-2 returns)
+coordinates-allowed-spec =
+    tie.close
+    (tie.spec
+    within-requires
+    within-requires-2
+    within-requires-3
+    both-requires
+    both-requires-2
+    returns)
