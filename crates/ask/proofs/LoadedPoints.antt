@@ -1,6 +1,6 @@
 -- The points loaded of an archive's records are what the sweep and the update ask for, and their counts are the archive's.
 use Prim.Native.Nat.{ℕ, _≤_}
-use mathlib.Core.Path.{_≡_, sym, ap, ap₂, _∙_}
+use mathlib.Core.Path.{_≡_, ap, ap₂, _∙_}
 use mathlib.Core.List.{List, _++_}
 use native.Mathlib.Omega.{arith}
 use lib.ListN.{length, take, drop}
@@ -15,7 +15,6 @@ use Rattle.words.specs.Layout.{read, read-shape, word}
 use Rattle.words.specs.Format.{archive-rows}
 use Rattle.words.specs.Places.{rows-before}
 use Rattle.words.proofs.Passed.{passed}
-use Rattle.calls.specs.Calls.{reference-of, held-points}
 use Rattle.calls.proofs.Known.{count-rows}
 use Rattle.records.specs.Columns.{leave-out}
 use Rattle.records.specs.Loaded.{PointsLoaded}

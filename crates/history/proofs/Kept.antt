@@ -1,7 +1,7 @@
 -- Words that hold the fresh archive of a book keep counts on the book's trials.
 use Prim.Native.Nat.{ℕ}
 use mathlib.Core.Path.{_≡_, ap, _∙_}
-use mathlib.Core.Bool.{true, not}
+use mathlib.Core.Bool.{true}
 use mathlib.Core.List.{List, List·Memᴰ, Memᴰ·map}
 use Rattle.hypervolume.specs.Cells.{holds}
 use Rattle.hypervolume.specs.Counts.{total, contribution, joint, gain}

@@ -1,16 +1,14 @@
 -- A point at the reference or beyond it on some axis counts for nothing: a factor of its edge product is 0.
-use Prim.Native.Nat.{ℕ, zero, suc, _-_, _*_, _≤_, _<_}
-use mathlib.Core.Path.{_≡_, sym, ap, _∙_}
+use Prim.Native.Nat.{ℕ, zero, suc, _-_, _≤_, _<_}
+use mathlib.Core.Path.{_≡_, sym, _∙_}
 use mathlib.Core.Bool.{Bool, true}
-use mathlib.Core.List.{List, _∷_, [], List·Memᴰ}
+use mathlib.Core.List.{List, _∷_, []}
 use native.Mathlib.Nat.{add-zero, mul-zero, zero-mul}
 use native.Mathlib.Omega.{arith}
-use lib.Dec.{eqb}
 use lib.ListN.{length, getD}
-use Rattle.slices.specs.Choices.{both}
 use Rattle.slices.proofs.Choices.{both-true}
 use Rattle.hypervolume.specs.Cells.{dominates, count, edges}
-use Rattle.hypervolume.specs.Counts.{cover, total, contribution, joint, gain}
+use Rattle.hypervolume.specs.Counts.{contribution, joint, gain}
 use Rattle.hypervolume.specs.Beyond.{Beyond, CountsForNothing, BeyondCountsForNothing}
 use Rattle.hypervolume.proofs.Tests.{holds-implied}
 use Rattle.hypervolume.proofs.Dominance.{among-member}

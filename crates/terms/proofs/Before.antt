@@ -23,7 +23,8 @@ use Rattle.calls.specs.Calls.{insert-rows, admission-rows, remove-rows, least-r
 use Rattle.calls.specs.Lent
 use Rattle.card.specs.Card
 use Rattle.card.specs.Card.{shape-on, trial-on, lines, malformed, by-form, first-line, further-line, Loading, judged, further, from-first}
-use Rattle.card.specs.Check.{packed, check}
+use Rattle.card.specs.Check
+use Rattle.card.specs.Check.{packed}
 use Rattle.history.specs.Book.{Book, entered, opened}
 use Rattle.history.specs.Kept.{HoldsJust}
 use Rattle.history.specs.Terms.{opened-by}
@@ -31,10 +32,9 @@ use Rattle.history.proofs.Steps.{Holds}
 use Rattle.history.proofs.Histories.{started}
 use Rattle.history.proofs.Kept.{holds-just}
 use Rattle.reports.specs.Report
-use Rattle.reports.specs.Report.{report-rows, reported}
+use Rattle.reports.specs.Report.{report-rows}
 use Rattle.terms.specs.Loading.{no-numbers, numbers-on, card-shape, card-trials}
-use Rattle.terms.specs.Behind.{ArchiveCall, written, result}
-use Rattle.terms.specs.Before.{inside, row-allowed-before, rows-allowed-before, sound-rows-before, records-allowed-before, archive-rows-before, insert-rows-before, gain-rows-before, table-now, table-before, insert-by, remove-by, least-by, reduce-by, asked-by, further-by, from-first-by, load-by, check-by, report-rows-by, result-by, CardInside, LetPassBefore, Unchanged}
+use Rattle.terms.specs.Before.{inside, row-allowed-before, rows-allowed-before, sound-rows-before, records-allowed-before, archive-rows-before, insert-rows-before, gain-rows-before, table-now, table-before, insert-by, remove-by, least-by, reduce-by, asked-by, further-by, from-first-by, load-by, check-by, short-output, Unchanged}
 use Rattle.terms.proofs.Loading.{trials-on, inserts}
 
 -- A point inside the reference is allowed, for any number of axes.
@@ -178,63 +178,63 @@ lines-same w (some v ∷ ls) h =
     judged-same w (Lent.start w (shape-on v) .refusal) 1 _ _
     (λ e. further-same (shape-on v) _ w (Lent.start w (shape-on v) .words) (opened-by (shape-on v)) 0 (started w (shape-on v) e .holds) (λ t m. unfold opened in absurd (List·Memᴰ·not-nil m)) ls h)
 
-load-same : (w card : List ℕ) → CardInside card → Card.load w card ≡ load-by table-before w card
-unfolding Card.load load-by CardInside card-shape card-trials
+-- A card whose coordinates are at most its reference.
+abbrev Within : List ℕ → Type 0
+Within card = (t : Trial) → List·Memᴰ t (card-trials card) → inside (card-shape card) t ≡ true
+
+load-same : (w card : List ℕ) → Within card → Card.load w card ≡ load-by table-before w card
+unfolding Card.load load-by card-shape card-trials
 load-same w card h = lines-same w (lines card) h
 
-as-before : (c : ArchiveCall) (w : List ℕ) → LetPassBefore c w → result c w ≡ result-by table-before c w
-unfolding LetPassBefore result result-by table-before
-as-before (ArchiveCall.start s) w h = refl
-as-before (ArchiveCall.insert t) w h = ap written (insert-same w (h .0) t (h .1))
-as-before (ArchiveCall.remove n) w h = unfold Lent.remove remove-by in rw (rows-same w h (remove-rows (read w) n))
-as-before ArchiveCall.least w h = unfold Lent.least least-by in rw (rows-same w h (least-rows (read w)))
-as-before (ArchiveCall.reduce k log) w h = unfold Lent.reduce reduce-by in rw (rows-same w h (reduce-rows (read w) k (length log)))
-as-before (ArchiveCall.joint m n) w h = unfold Lent.joint asked-by in rw (rows-same w h (joint-rows (read w) m n))
-as-before (ArchiveCall.gain p) w h =
-    unfold Lent.gain-answer asked-by in rw (rows-same w (h .0) (gain-rows p), gain-row w (h .0) p (h .1))
-as-before ArchiveCall.share w h = unfold Lent.share asked-by in rw (rows-same w h 0)
-as-before ArchiveCall.audit w h = unfold Lent.audit asked-by in rw (rows-same w h 0)
-as-before (ArchiveCall.load card) w h = rw (load-same w card h)
-as-before (ArchiveCall.report out) w h =
-    unfold Report.report reported report-rows report-rows-by in
-    rw (rows-same w h (guard (ltb (length out) (53 * (length (read w .rows) + 1))) 16 0))
-
 -- By the table of today the calls are those that the contracts cite.
-further-cited : (before w : List ℕ) (n : ℕ) (ls : List (Option Numbers)) → further-by table-now before w n ls ≡ further before w n ls
+further-cited : (before w : List ℕ) (n : ℕ) (ls : List (Option Numbers)) → further before w n ls ≡ further-by table-now before w n ls
 unfolding further further-by further-line insert-by table-now Lent.insert
 further-cited before w n [] = refl
 further-cited before w n (l ∷ ls) =
     ap (judged before (further-line w l .refusal) (n + 2)) (further-cited before (further-line w l .words) (n + 1) ls)
 
-load-cited : (w card : List ℕ) → load-by table-now w card ≡ Card.load w card
+load-cited : (w card : List ℕ) → Card.load w card ≡ load-by table-now w card
 unfolding Card.load load-by from-first from-first-by
 load-cited w card = go (lines card)
   where
-    go : (ls : List (Option Numbers)) → from-first-by table-now w ls ≡ from-first w ls
+    go : (ls : List (Option Numbers)) → from-first w ls ≡ from-first-by table-now w ls
     go [] = refl
     go (l ∷ ls) = ap (judged w (first-line w l .refusal) 1) (further-cited w (first-line w l .words) 0 ls)
 
-as-cited : (c : ArchiveCall) (w : List ℕ) → result-by table-now c w ≡ result c w
-unfolding result result-by table-now
-as-cited (ArchiveCall.start s) w = refl
-as-cited (ArchiveCall.insert t) w = unfold insert-by Lent.insert in refl
-as-cited (ArchiveCall.remove n) w = unfold remove-by Lent.remove in refl
-as-cited ArchiveCall.least w = unfold least-by Lent.least in refl
-as-cited (ArchiveCall.reduce k log) w = unfold reduce-by Lent.reduce in refl
-as-cited (ArchiveCall.joint m n) w = unfold asked-by Lent.joint in refl
-as-cited (ArchiveCall.gain p) w = unfold asked-by Lent.gain-answer in refl
-as-cited ArchiveCall.share w = unfold asked-by Lent.share in refl
-as-cited ArchiveCall.audit w = unfold asked-by Lent.audit in refl
-as-cited (ArchiveCall.load card) w = rw (load-cited w card)
-as-cited (ArchiveCall.report out) w = unfold Report.report reported report-rows report-rows-by in refl
-
 -- "Every formerly accepted call answers as before."
 pub unchanged : Unchanged
-unfolding check check-by
+unfolding table-now table-before Lent.insert insert-by Lent.remove remove-by Lent.least least-by Lent.reduce reduce-by Lent.joint Lent.gain-answer
+    Lent.share Lent.audit asked-by Report.report Report.reported report-rows short-output Check.check check-by
 unchanged =
     record {
-      as-cited = as-cited;
-      check-as-cited = λ card. ap (λ l. packed (l .answer)) (load-cited (replicate (extent 512) 0) card);
-      as-before = as-before;
-      check-as-before = λ card h. ap (λ l. packed (l .answer)) (load-same (replicate (extent 512) 0) card h);
+      as-cited =
+          record {
+            insert = λ w t h i. refl;
+            remove = λ w n h. refl;
+            least = λ w h. refl;
+            reduce = λ w k log h. refl;
+            joint = λ w m n h. refl;
+            gain = λ w p h i. refl;
+            share = λ w h. refl;
+            audit = λ w h. refl;
+            report = λ w out h. refl;
+            reported = λ w out h. refl;
+            load = λ w card h. load-cited w card;
+            check = λ card h. ap (λ l. packed (l .answer)) (load-cited (replicate (extent 512) 0) card);
+          };
+      as-before =
+          record {
+            insert = λ w t h i. insert-same w h t i;
+            remove = λ w n h. rw (rows-same w h (remove-rows (read w) n));
+            least = λ w h. rw (rows-same w h (least-rows (read w)));
+            reduce = λ w k log h. rw (rows-same w h (reduce-rows (read w) k (length log)));
+            joint = λ w m n h. rw (rows-same w h (joint-rows (read w) m n));
+            gain = λ w p h i. rw (rows-same w h (gain-rows p), gain-row w h p i);
+            share = λ w h. rw (rows-same w h 0);
+            audit = λ w h. rw (rows-same w h 0);
+            report = λ w out h. rw (rows-same w h (short-output w out));
+            reported = λ w out h. rw (rows-same w h (short-output w out));
+            load = load-same;
+            check = λ card h. ap (λ l. packed (l .answer)) (load-same (replicate (extent 512) 0) card h);
+          };
     }

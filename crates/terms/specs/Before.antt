@@ -5,7 +5,7 @@ use Prim.Native.Nat.{ℕ, _+_, _*_, _-_}
 use mathlib.Core.Path.{_≡_}
 use mathlib.Core.Bool.{Bool, true, not}
 use mathlib.Core.List.{List, _∷_, _++_, [], List·Memᴰ}
-use mathlib.Core.Option.{Option, none, some}
+use mathlib.Core.Option.{Option}
 use lib.Dec.{leb, ltb, eqb}
 use lib.ListN.{length, replicate}
 use Rattle.slices.specs.Choices.{both}
@@ -19,11 +19,13 @@ use Rattle.calls.specs.declared.Answer.{Answer}
 use Rattle.calls.specs.declared.LeastAnswer.{LeastAnswer}
 use Rattle.calls.specs.Lent
 use Rattle.calls.specs.Lent.{Outcome, leaves, answer, least-answer}
+use Rattle.card.specs.Card
 use Rattle.card.specs.Card.{trial-on, lines, by-form, first-line, Loading, refused, accepted, judged}
-use Rattle.card.specs.Check.{packed, check}
+use Rattle.card.specs.Check
+use Rattle.card.specs.Check.{packed}
+use Rattle.reports.specs.Report
 use Rattle.reports.specs.Report.{report-text, output}
 use Rattle.terms.specs.Loading.{card-shape, card-trials}
-use Rattle.terms.specs.Behind.{ArchiveCall, start, insert, remove, least, reduce, joint, gain, share, audit, load, report, Result, written, only-read, result}
 
 -- The condition of rows 3 and 6 as it was: "coordinates run from 0 to the reference on that axis, both allowed".
 unfoldable pub inside : Shape → Trial → Bool
@@ -76,7 +78,7 @@ unfoldable pub table-before : Table
 table-before = record { archive = archive-rows-before; insert = insert-rows-before; gain = gain-rows-before }
 
 -- The calls by a table, in the order of calls/specs/Lent, card/specs/Card and reports/specs/Report. For the table of
--- today they are the definitions there, which the contracts cite (Unchanged, as-cited).
+-- today they are the definitions there, which the contracts cite (Unchanged .as-cited).
 unfoldable pub insert-by : Table → List ℕ → Trial → Outcome
 insert-by by w t =
     leaves w [] (by .archive w (by .insert (read w) t)) 0 (layout (inserted (read w) t) ++ behind w) []
@@ -115,62 +117,31 @@ load-by by w card = from-first-by by w (lines card)
 unfoldable pub check-by : Table → List ℕ → ℕ
 check-by by card = packed (load-by by (replicate (extent 512) 0) card .answer)
 
-unfoldable pub report-rows-by : Table → List ℕ → List ℕ → ℕ
-report-rows-by by w out =
-    by .archive w (guard (ltb (length out) (53 * (length (read w .rows) + 1))) 16 0)
+-- Row 16.
+unfoldable pub short-output : List ℕ → List ℕ → ℕ
+short-output w out = guard (ltb (length out) (53 * (length (read w .rows) + 1))) 16 0
 
--- All that comes of a call, as in Behind.
-unfoldable pub result-by : Table → ArchiveCall → List ℕ → Result
-result-by by (start s) w = written (Lent.start w s)
-result-by by (insert t) w = written (insert-by by w t)
-result-by by (remove n) w = written (remove-by by w n)
-result-by by least w =
-    record {
-      answer = least-by by w .refusal ∷ least-by by w .number ∷ least-by by w .contribution ∷ [];
-      words = w;
-      other = [];
-    }
-result-by by (reduce k log) w = written (reduce-by by w k log)
-result-by by (joint m n) w = only-read w (asked-by by w (joint-rows (read w) m n) (joint-of (read w) m n))
-result-by by (gain p) w = only-read w (asked-by by w (by .gain (read w) p) (insert-gain (read w) p))
-result-by by share w = only-read w (asked-by by w 0 (share-of (read w)))
-result-by by audit w = only-read w (asked-by by w 0 (holds (audited (read w))))
-result-by by (load card) w =
-    record {
-      answer = load-by by w card .answer .refusal ∷ load-by by w card .answer .line ∷ load-by by w card .answer .count ∷ [];
-      words = load-by by w card .words;
-      other = [];
-    }
-result-by by (report out) w =
-    record {
-      answer =
-          answer (report-rows-by by w out) (length (report-text (read w))) .refusal
-          ∷ answer (report-rows-by by w out) (length (report-text (read w))) .value ∷ [];
-      words = w;
-      other = output (report-rows-by by w out) (report-text (read w)) out;
-    }
+-- Where the words, the points and the card are so, the calls that the contracts cite answer and leave what the calls by
+-- the table do.
+pub record CallsAlike (by : Table) (Words : List ℕ → Type 0) (Point : Shape → Trial → Type 0) : Type 0 where
+  pub insert : (w : List ℕ) (t : Trial) → Words w → Point (read w .shape) t → Lent.insert w t ≡ insert-by by w t
+  pub remove : (w : List ℕ) (n : ℕ) → Words w → Lent.remove w n ≡ remove-by by w n
+  pub least : (w : List ℕ) → Words w → Lent.least w ≡ least-by by w
+  pub reduce : (w : List ℕ) (k : ℕ) (log : List ℕ) → Words w → Lent.reduce w k log ≡ reduce-by by w k log
+  pub joint : (w : List ℕ) (m n : ℕ) → Words w → Lent.joint w m n ≡ asked-by by w (joint-rows (read w) m n) (joint-of (read w) m n)
+  pub gain : (w : List ℕ) (p : Trial) → Words w → Point (read w .shape) p
+      → Lent.gain-answer w p ≡ asked-by by w (by .gain (read w) p) (insert-gain (read w) p)
+  pub share : (w : List ℕ) → Words w → Lent.share w ≡ asked-by by w 0 (share-of (read w))
+  pub audit : (w : List ℕ) → Words w → Lent.audit w ≡ asked-by by w 0 (holds (audited (read w)))
+  pub report : (w out : List ℕ) → Words w → Report.report w out ≡ asked-by by w (short-output w out) (length (report-text (read w)))
+  pub reported : (w out : List ℕ) → Words w
+      → Report.reported w out ≡ output (by .archive w (short-output w out)) (report-text (read w)) out
+  pub load : (w card : List ℕ) → ((t : Trial) → List·Memᴰ t (card-trials card) → Point (card-shape card) t) → Card.load w card ≡ load-by by w card
+  pub check : (card : List ℕ) → ((t : Trial) → List·Memᴰ t (card-trials card) → Point (card-shape card) t) → Check.check card ≡ check-by by card
 
--- A card whose coordinates are at most its reference.
-unfoldable pub CardInside : List ℕ → Type 0
-CardInside card = (t : Trial) → List·Memᴰ t (card-trials card) → inside (card-shape card) t ≡ true
-
--- The old rows 1 to 3 let the words pass, and the old row 6 the point where the call takes one. (The other rows may turn
--- the call down.) A start reads no coordinate.
-unfoldable pub LetPassBefore : ArchiveCall → List ℕ → Type 0
-LetPassBefore (start s) w = Unit {0}
-LetPassBefore (insert t) w = (archive-rows-before w 0 ≡ 0) × (inside (read w .shape) t ≡ true)
-LetPassBefore (remove n) w = archive-rows-before w 0 ≡ 0
-LetPassBefore least w = archive-rows-before w 0 ≡ 0
-LetPassBefore (reduce k log) w = archive-rows-before w 0 ≡ 0
-LetPassBefore (joint m n) w = archive-rows-before w 0 ≡ 0
-LetPassBefore (gain p) w = (archive-rows-before w 0 ≡ 0) × (inside (read w .shape) p ≡ true)
-LetPassBefore share w = archive-rows-before w 0 ≡ 0
-LetPassBefore audit w = archive-rows-before w 0 ≡ 0
-LetPassBefore (load card) w = CardInside card
-LetPassBefore (report out) w = archive-rows-before w 0 ≡ 0
-
+-- By the table of today the calls are those that the contracts cite, always. By the table as it was they are so on words
+-- that its rows 1 to 3 let pass, for points that its row 6 lets pass, and for cards whose coordinates are at most their
+-- reference. (The other rows may turn the call down.) Start is not among them: it reads no coordinate.
 pub record Unchanged : Type 0 where
-  pub as-cited : (c : ArchiveCall) (w : List ℕ) → result-by table-now c w ≡ result c w
-  pub check-as-cited : (card : List ℕ) → check-by table-now card ≡ check card
-  pub as-before : (c : ArchiveCall) (w : List ℕ) → LetPassBefore c w → result c w ≡ result-by table-before c w
-  pub check-as-before : (card : List ℕ) → CardInside card → check card ≡ check-by table-before card
+  pub as-cited : CallsAlike table-now (λ w. Unit {0}) (λ s t. Unit {0})
+  pub as-before : CallsAlike table-before (λ w. archive-rows-before w 0 ≡ 0) (λ s t. inside s t ≡ true)

@@ -1,10 +1,9 @@
 -- `gain_in` meets its contract: row 6, or the gain over all records.
-use mathlib.Core.Path.{_≡_, sym, ap, subst, _∙_}
+use mathlib.Core.Path.{sym, subst, _∙_}
 use native.Mathlib.Nat.{le-refl}
 use native.Mathlib.Omega.{arith}
 use borrow.Author.Tests.{not-true, not-false}
 use Rattle.hypervolume.specs.Sorted.{Small}
-use Rattle.words.specs.Layout.{read}
 use Rattle.words.specs.Places.{as-row}
 use Rattle.calls.specs.Lent.{gain-answer}
 use Rattle.calls.proofs.Known.{known}
