@@ -4,7 +4,7 @@ use Prim.Native.Nat.{ℕ, zero, suc, _+_, _*_, _≤_, zero-le}
 use mathlib.Core.Path.{_≡_, refl, sym, ap, _∙_}
 use mathlib.Core.Bool.{true, false, not}
 use mathlib.Core.Logic.{_⊎_, inl, inr}
-use mathlib.Core.List.{List, _∷_, map, [], List·Memᴰ, List·Memᴰ·head, List·Memᴰ·tail, List·Memᴰ·not-nil, List·Memᴰ·cases-cons}
+use mathlib.Core.List.{List, _∷_, map, [], List·Memᴰ, List·Memᴰ·head, List·Memᴰ·tail, List·Memᴰ·not-nil, List·Memᴰ·cases-cons, Memᴰ·of-map}
 use mathlib.Core.Option.{Option, none, some}
 use native.Mathlib.Nat.{le-trans}
 use native.Mathlib.Omega.{arith}
@@ -14,7 +14,7 @@ use borrow.Author.Tests.{leb-true, ltb-false, le-ltb, not-false}
 use Rattle.slices.proofs.Choices.{both-true, both-intro}
 use Rattle.hypervolume.specs.Cells.{dominates}
 use Rattle.text.specs.Lines.{Numbers}
-use Rattle.words.specs.Archive.{Trial, Row, Shape, point, reference}
+use Rattle.words.specs.Archive.{Trial, Row, Shape, point, reference, trials}
 use Rattle.words.specs.Layout.{extent, word, read-shape, read}
 use Rattle.words.specs.Format.{guard, within, each, coordinates-allowed, header-allowed, row-allowed, rows-allowed, sound-rows, records-allowed, archive-rows}
 use Rattle.words.specs.Places.{Headed}
@@ -62,16 +62,16 @@ rows-now s (r ∷ rows) b e =
     both-intro _ _ (both-intro _ _ (number .0) (both-intro _ _ (inside-allowed s (r .trial) b (rest .0)) (rest .1)))
     (rows-now s rows b (parts .1))
 
-rows-then : (s : Shape) (rows : List Row) → rows-allowed s rows ≡ true → ((r : Row) → List·Memᴰ r rows → inside s (r .trial) ≡ true)
+rows-then : (s : Shape) (rows : List Row) → rows-allowed s rows ≡ true → ((t : Trial) → List·Memᴰ t (trials rows) → inside s t ≡ true)
     → rows-allowed-before s rows ≡ true
-unfolding rows-allowed rows-allowed-before row-allowed row-allowed-before
+unfolding rows-allowed rows-allowed-before row-allowed row-allowed-before trials
 rows-then s [] e h = refl
 rows-then s (r ∷ rows) e h =
     let parts = both-true _ _ e in
     let number = both-true _ _ (parts .0) in
     let rest = both-true _ _ (number .1) in
-    both-intro _ _ (both-intro _ _ (number .0) (both-intro _ _ (h r (List·Memᴰ·head refl)) (rest .1)))
-    (rows-then s rows (parts .1) (λ q m. h q (List·Memᴰ·tail m)))
+    both-intro _ _ (both-intro _ _ (number .0) (both-intro _ _ (h (r .trial) (List·Memᴰ·head refl)) (rest .1)))
+    (rows-then s rows (parts .1) (λ t m. h t (List·Memᴰ·tail m)))
 
 -- Rows 1 to 3. Words that passed as they were pass today, and either table leaves the verdict to the rows of the call.
 decides-before : (w : List ℕ) (rest : ℕ) → Headed w → archive-rows-before w rest ≡ guard (not (records-allowed-before w)) 3 rest
@@ -125,18 +125,23 @@ module _ (w : List ℕ) (e : archive-rows-before w 0 ≡ 0) where
     unfolding Lent.insert insert-by table-before
     insert-same = rw (rows-same (insert-rows (read w) t), insert-row)
 
--- Words that pass today and hold trials inside the reference alone passed before.
-passed-then : (w : List ℕ) (s : Shape) (ts : List Trial) → HoldsJust w s ts → ((t : Trial) → List·Memᴰ t ts → inside s t ≡ true) → archive-rows-before w 0 ≡ 0
+-- Words that pass today passed before where no trial lies beyond the reference.
+passed-then : (w : List ℕ) → archive-rows w 0 ≡ 0 → ((t : Trial) → List·Memᴰ t (trials (read w .rows)) → inside (read w .shape) t ≡ true)
+    → archive-rows-before w 0 ≡ 0
 unfolding records-allowed records-allowed-before sound-rows sound-rows-before guard read
-passed-then w s ts h k =
-    let u : Unrefused w 0 = unrefused w 0 (h .passes) in
+passed-then w p h =
+    let u : Unrefused w 0 = unrefused w 0 p in
     let records = both-true _ _ (u .records) in
     let rows = both-true _ _ (records .0) in
-    let within : (r : Row) → List·Memᴰ r (read w .rows) → inside (read w .shape) (r .trial) ≡ true =
-    λ r m. rw (h .shape) (k (r .trial) (h .no-other r m)) in
     let then : records-allowed-before w ≡ true =
-    both-intro _ _ (both-intro _ _ (rows-then (read-shape w) (read w .rows) (rows .0) within) (rows .1)) (records .1) in
+    both-intro _ _ (both-intro _ _ (rows-then (read-shape w) (read w .rows) (rows .0) h) (rows .1)) (records .1) in
     decides-before w 0 (u .headed) ∙ rw then
+
+held-then : (w : List ℕ) (s : Shape) (ts : List Trial) → HoldsJust w s ts → ((t : Trial) → List·Memᴰ t ts → inside s t ≡ true) → archive-rows-before w 0 ≡ 0
+unfolding trials
+held-then w s ts h k =
+    passed-then w (h .passes)
+    (λ t m. let r = Memᴰ·of-map (λ r. r .trial) (read w .rows) m in rw (h .shape, ← r .2) (k (r .0 .trial) (h .no-other (r .0) (r .1))))
 
 -- A line that is not refused leaves the verdict to the rest of the card.
 judged-same : (before : List ℕ) (k line : ℕ) (rest other : Loading) → (k ≡ 0 → rest ≡ other) → judged before k line rest ≡ judged before k line other
@@ -155,7 +160,7 @@ further-same s rest before w b n h old (some v ∷ ls) new =
     let t : Trial = trial-on v in
     let here : inside s t ≡ true = new t (List·Memᴰ·head refl) in
     let held : HoldsJust w s (b .trials) = holds-just s rest w b h in
-    let then : archive-rows-before w 0 ≡ 0 = passed-then w s (b .trials) held old in
+    let then : archive-rows-before w 0 ≡ 0 = held-then w s (b .trials) held old in
     let same : Lent.insert w t ≡ insert-by table-before w t = insert-same w then t (rw (held .shape) here) in
     rw (← same)
     (judged-same before (Lent.insert w t .refusal) (n + 2) _ _
@@ -237,4 +242,5 @@ unchanged =
             load = load-same;
             check = λ card h. ap (λ l. packed (l .answer)) (load-same (replicate (extent 512) 0) card h);
           };
+      only-beyond = passed-then;
     }

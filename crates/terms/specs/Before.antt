@@ -145,3 +145,6 @@ pub record CallsAlike (by : Table) (Words : List ℕ → Type 0) (Point : Shape 
 pub record Unchanged : Type 0 where
   pub as-cited : CallsAlike table-now (λ w. Unit {0}) (λ s t. Unit {0})
   pub as-before : CallsAlike table-before (λ w. archive-rows-before w 0 ≡ 0) (λ s t. inside s t ≡ true)
+  -- rows 1 to 3 gave way nowhere else: words that pass today passed then where no trial lies beyond the reference
+  pub only-beyond : (w : List ℕ) → archive-rows w 0 ≡ 0
+      → ((t : Trial) → List·Memᴰ t (trials (read w .rows)) → inside (read w .shape) t ≡ true) → archive-rows-before w 0 ≡ 0
