@@ -51,6 +51,17 @@ impl Call {
         }
     }
 
+    /// Whether the call's point, or a trial that the words hold, has a coordinate beyond the
+    /// words' reference.
+    fn meets_beyond(&self, words: &[u64]) -> bool {
+        let past = |p: &[u64]| (0..3).any(|axis| p[axis] > words[2 + axis]);
+        match self {
+            Call::Start { .. } | Call::Check { .. } | Call::Load { .. } => false,
+            Call::Insert { point, .. } | Call::Gain { point } => past(point),
+            _ => words[8..8 + 5 * words[0] as usize].chunks(5).any(|r| past(&r[1..4])),
+        }
+    }
+
     /// Whether one of its coordinates has more than 32 bits.
     fn is_wide(&self) -> bool {
         self.point().is_some_and(|point| narrow(point).is_none())
@@ -114,11 +125,13 @@ pub fn expect(call: &Call, lent: &[u64], refusal: u64) -> Outcome {
     outcome
 }
 
-/// How often each call met each refusal, and how often it was given a wide coordinate.
+/// How often each call met each refusal, how often it was given a wide coordinate, and how often
+/// it was done on trials or a point of which some lie beyond the reference.
 #[derive(Default)]
 pub struct Tally {
     met: BTreeMap<(&'static str, u64), u64>,
     wide: BTreeMap<&'static str, u64>,
+    beyond: BTreeMap<&'static str, u64>,
 }
 
 impl Tally {
@@ -132,7 +145,17 @@ impl Tally {
         if call.is_wide() {
             *self.wide.entry(call.name()).or_default() += 1;
         }
+        if refusal == 0 && call.meets_beyond(lent) {
+            *self.beyond.entry(call.name()).or_default() += 1;
+        }
         outcome
+    }
+
+    /// The call was often done where some trial or its point lies beyond the reference.
+    pub fn covers_beyond(&self, call: &'static str) {
+        let times = self.beyond.get(call).copied().unwrap_or(0);
+        assert!(times >= 500, "{call} was done beyond the reference only {times} times");
+        println!("{call} beyond the reference: {times}");
     }
 
     /// Every one of these rows of the call has been met often, and no other.

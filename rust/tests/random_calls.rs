@@ -66,6 +66,10 @@ fn run(percent: u64, size: Size) {
     for call in ["start", "insert", "gain"] {
         tally.covers_wide(call);
     }
+    let all = ["insert", "remove", "least", "reduce", "joint", "gain", "share", "audit", "report"];
+    for call in all {
+        tally.covers_beyond(call);
+    }
 }
 
 #[test]
