@@ -112,13 +112,13 @@ fn further_row(card: &[u8], capacity: u64, count: usize, l: Line, met: bool) -> 
         kept: 0,
     };
     let allowed = number_allowed(first);
-    let inside = coordinates_allowed(row);
+    let in_range = coordinates_allowed(row);
     let known = held(card, count, first, met);
     guard(
         !allowed,
         5,
         guard(
-            !inside,
+            !in_range,
             6,
             guard(known, 7, guard(count as u64 == capacity, 8, 0)),
         ),
