@@ -350,11 +350,13 @@ fn taken(reference: Point, point: Point) {
 fn row_6_has_one_limit_whatever_the_reference() {
     for number in [1, 2, 4, MAX_REFERENCE - 1, MAX_REFERENCE] {
         for axis in 0..3 {
-            for reference in [[number; 3], [4; 3].map(|r: u64| r.min(number))] {
+            let mut mixed = [4; 3];
+            mixed[axis] = number;
+            for reference in [[number; 3], mixed] {
                 let near = [reference[axis] - 1, reference[axis], reference[axis] + 1];
                 let last = [MAX_COORDINATE - 1, MAX_COORDINATE];
                 for coordinate in near.into_iter().chain(last) {
-                    for others in [0, 1, reference[0], MAX_COORDINATE] {
+                    for others in [0, 1, 4, MAX_COORDINATE] {
                         let mut point = [others; 3];
                         point[axis] = coordinate.min(MAX_COORDINATE);
                         taken(reference, point);
