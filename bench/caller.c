@@ -1,7 +1,8 @@
 /*
  * A caller of every call: document 01's card and report, its "Counts to meet",
- * one meeting with each refusal, numbers as C passes them, and what the header
- * defines: the structs' fields and the lengths. Lent memory stands between
+ * one meeting with each refusal, coordinates on both sides of every limit,
+ * numbers as C passes them, and what the header defines: the structs' fields
+ * and the lengths. Lent memory stands between
  * guards, and what a call only reads is compared after it. Prints what went
  * wrong, and at the end 'N passed, M failed'; ends with 1 where something
  * failed.

@@ -3,9 +3,9 @@
 //!
 //! A point is three whole numbers x, y, z, each 0 to 1,048,576; lower is better. It dominates the
 //! cell (i, j, k) below the reference where x ≤ i, y ≤ j and z ≤ k: none where it is at the
-//! reference or beyond it on any axis. The *total* is the number of cells that some trial dominates, a
-//! *contribution* the number that this trial dominates and no other does. Equal trials are several
-//! trials.
+//! reference or beyond it on any axis. The *total* is the number of cells that some trial
+//! dominates, a *contribution* the number that this trial dominates and no other does. Equal trials
+//! are several trials.
 //!
 //! ```
 //! use trial_archive::{Archive, Refusal};

@@ -9,14 +9,14 @@ use lib.Dec.{leb, ltb, eqb}
 use lib.ListN.{length, take, drop, length-append, take-append-drop}
 use lib.Seq.{take-append-add, drop-append-add}
 use borrow.Author.Tests.{le-leb, lt-ltb, le-ltb, ltb-false, not-false, eqb-false}
-use Rattle.slices.proofs.Choices.{both-comm, not-both}
+use Rattle.slices.proofs.Choices.{not-both}
 use Rattle.slices.specs.Choices.{both, either}
 use Rattle.hypervolume.proofs.Tests.{Compared, below, above, compared}
 use Rattle.words.specs.Archive.{Trial, Shape, Archive}
 use Rattle.words.specs.Layout.{header, layout, extent, word, read, behind}
-use Rattle.words.specs.Format.{guard, within, each, number-allowed, coordinates-allowed, held, archive-rows}
+use Rattle.words.specs.Format.{guard, within, number-allowed, coordinates-allowed, held, archive-rows}
 use Rattle.words.proofs.Reading.{read-layout, length-layout, behind-layout}
-use Rattle.words.proofs.Passed.{Sound, sound-passes}
+use Rattle.words.proofs.Passed.{Sound, sound-passes, each-three}
 use Rattle.words.proofs.Short.{part-short}
 use Rattle.calls.specs.Calls.{held-trials, inserted, insert-overruns, admission-rows, insert-rows, removed, remove-overruns, remove-rows, audited, after-drops, notes, reduce-rows}
 use Rattle.calls.specs.Counted.{counted}
@@ -89,9 +89,9 @@ unfolding within both
 past n = rw (le-leb 0 n zero-le) (not-leb n 1048576)
 
 row-6 : (t : Trial) → not (coordinates-allowed t) ≡ either (ltb 1048576 (t .x)) (either (ltb 1048576 (t .y)) (ltb 1048576 (t .z)))
-unfolding coordinates-allowed each both
+unfolding coordinates-allowed
 row-6 t =
-    ap (λ b. not (both (within 0 1048576 (t .x)) (both (within 0 1048576 (t .y)) b))) (both-comm (within 0 1048576 (t .z)) true)
+    ap not (each-three (within 0 1048576) (t .x) (t .y) (t .z))
     ∙ not-both (within 0 1048576 (t .x)) (both (within 0 1048576 (t .y)) (within 0 1048576 (t .z)))
     ∙ rw (not-both (within 0 1048576 (t .y)) (within 0 1048576 (t .z)), past (t .x), past (t .y), past (t .z))
 

@@ -1,24 +1,23 @@
 -- Every formerly accepted call answers as before: on words and points inside the reference the rows as they were and
 -- the rows of today come to the same, and a card's insertions stay inside where its coordinates do.
-use Prim.Native.Nat.{ℕ, zero, suc, _+_, _*_, _≤_, zero-le}
-use mathlib.Core.Path.{_≡_, refl, sym, ap, _∙_}
-use mathlib.Core.Bool.{true, false, not}
+use Prim.Native.Nat.{ℕ, zero, suc, _+_, _≤_, zero-le}
+use mathlib.Core.Path.{_≡_, refl, ap, _∙_}
+use mathlib.Core.Bool.{true, not}
 use mathlib.Core.Logic.{_⊎_, inl, inr}
 use mathlib.Core.List.{List, _∷_, map, [], List·Memᴰ, List·Memᴰ·head, List·Memᴰ·tail, List·Memᴰ·not-nil, List·Memᴰ·cases-cons, Memᴰ·of-map}
 use mathlib.Core.Option.{Option, none, some}
 use native.Mathlib.Nat.{le-trans}
 use native.Mathlib.Omega.{arith}
-use lib.Dec.{ltb, lit≤}
+use lib.Dec.{lit≤}
 use lib.ListN.{length, getD, drop, replicate}
-use borrow.Author.Tests.{leb-true, ltb-false, le-ltb, not-false}
+use borrow.Author.Tests.{leb-true}
 use Rattle.slices.proofs.Choices.{both-true, both-intro}
 use Rattle.hypervolume.specs.Cells.{dominates}
 use Rattle.text.specs.Lines.{Numbers}
 use Rattle.words.specs.Archive.{Trial, Row, Shape, point, reference, trials}
-use Rattle.words.specs.Layout.{extent, word, read-shape, read}
-use Rattle.words.specs.Format.{guard, within, each, coordinates-allowed, header-allowed, row-allowed, rows-allowed, sound-rows, records-allowed, archive-rows}
-use Rattle.words.specs.Places.{Headed}
-use Rattle.words.proofs.Passed.{bounds-within, ShapeBounds, shape-bounds, guard-none, Unrefused, unrefused, header-facts, row-3-decides}
+use Rattle.words.specs.Layout.{extent, read-shape, read}
+use Rattle.words.specs.Format.{guard, within, each, coordinates-allowed, row-allowed, rows-allowed, sound-rows, records-allowed, archive-rows}
+use Rattle.words.proofs.Passed.{bounds-within, ShapeBounds, shape-bounds, Unrefused, unrefused, test-unrefused, header-facts, row-3-decides, test-decides}
 use Rattle.calls.specs.Calls.{insert-rows, admission-rows, remove-rows, least-rows, reduce-rows, joint-rows, gain-rows}
 use Rattle.calls.specs.Lent
 use Rattle.card.specs.Card
@@ -34,7 +33,7 @@ use Rattle.history.proofs.Kept.{holds-just}
 use Rattle.reports.specs.Report
 use Rattle.reports.specs.Report.{report-rows}
 use Rattle.terms.specs.Loading.{no-numbers, numbers-on, card-shape, card-trials}
-use Rattle.terms.specs.Before.{inside, row-allowed-before, rows-allowed-before, sound-rows-before, records-allowed-before, archive-rows-before, insert-rows-before, gain-rows-before, table-now, table-before, insert-by, remove-by, least-by, reduce-by, asked-by, further-by, from-first-by, load-by, check-by, short-output, Unchanged}
+use Rattle.terms.specs.Before.{inside, row-allowed-before, rows-allowed-before, sound-rows-before, records-allowed-before, archive-rows-before, insert-rows-before, gain-rows-before, table-now, table-before, insert-by, remove-by, least-by, reduce-by, asked-by, further-by, from-first-by, load-by, check-by, short-output, EachTrial, Unchanged}
 use Rattle.terms.proofs.Loading.{trials-on, inserts}
 
 -- A point inside the reference is allowed, for any number of axes.
@@ -74,38 +73,26 @@ rows-then s (r ∷ rows) e h =
     (rows-then s rows (parts .1) (λ t m. h t (List·Memᴰ·tail m)))
 
 -- Rows 1 to 3. Words that passed as they were pass today, and either table leaves the verdict to the rows of the call.
-decides-before : (w : List ℕ) (rest : ℕ) → Headed w → archive-rows-before w rest ≡ guard (not (records-allowed-before w)) 3 rest
-unfolding archive-rows-before guard extent
-decides-before w rest h =
-    let long : 8 + 5 * word w 1 ≤ length w = h .whole in
-    rw (le-ltb (length w) 8 (omega arith), h .allowed, le-ltb (length w) (8 + 5 * word w 1) long)
-
 module _ (w : List ℕ) (e : archive-rows-before w 0 ≡ 0) where
-  abbrev first : (ltb (length w) 8 ≡ false) × (guard (not (header-allowed w)) 2 (guard (ltb (length w) (extent (word w 1))) 1 (guard (not (records-allowed-before w)) 3 0)) ≡ 0)
-  first = unfold archive-rows-before in guard-none _ _ _ e
-
-  headed : Headed w
-  headed =
-      let second = guard-none _ _ _ (first .1) in
-      record { allowed = not-false _ (second .0); whole = ltb-false _ _ (guard-none _ _ _ (second .1) .0) }
-
-  records-before : records-allowed-before w ≡ true
-  records-before = not-false _ (guard-none _ 2 _ (sym (decides-before w 0 headed) ∙ e) .0)
+  passed-before : Unrefused (records-allowed-before w) w 0
+  unfolding archive-rows-before
+  passed-before = test-unrefused (records-allowed-before w) w 0 e
 
   bounds : ShapeBounds (read-shape w)
-  bounds = shape-bounds (read-shape w) (header-facts w headed .shaped)
+  bounds = shape-bounds (read-shape w) (header-facts w (passed-before .headed) .shaped)
 
   records-now : records-allowed w ≡ true
   unfolding records-allowed records-allowed-before sound-rows sound-rows-before
   records-now =
-      let records = both-true _ _ records-before in
+      let records = both-true _ _ (passed-before .records) in
       let rows = both-true _ _ (records .0) in
       both-intro _ _ (both-intro _ _ (rows-now (read-shape w) (read w .rows) bounds (rows .0)) (rows .1)) (records .1)
 
   rows-same : (rest : ℕ) → archive-rows w rest ≡ archive-rows-before w rest
-  unfolding guard
+  unfolding guard archive-rows-before
   rows-same rest =
-      row-3-decides w rest headed ∙ rw (records-now, decides-before w rest headed, records-before)
+      row-3-decides w rest (passed-before .headed)
+      ∙ rw (records-now, test-decides (records-allowed-before w) w rest (passed-before .headed), passed-before .records)
 
   -- Row 6, of a point inside the reference.
   module _ (t : Trial) (i : inside (read w .shape) t ≡ true) where
@@ -128,14 +115,14 @@ module _ (w : List ℕ) (e : archive-rows-before w 0 ≡ 0) where
 -- Words that pass today passed before where no trial lies beyond the reference.
 passed-then : (w : List ℕ) → archive-rows w 0 ≡ 0 → ((t : Trial) → List·Memᴰ t (trials (read w .rows)) → inside (read w .shape) t ≡ true)
     → archive-rows-before w 0 ≡ 0
-unfolding records-allowed records-allowed-before sound-rows sound-rows-before guard read
+unfolding archive-rows-before records-allowed records-allowed-before sound-rows sound-rows-before guard read
 passed-then w p h =
-    let u : Unrefused w 0 = unrefused w 0 p in
+    let u = unrefused w 0 p in
     let records = both-true _ _ (u .records) in
     let rows = both-true _ _ (records .0) in
     let then : records-allowed-before w ≡ true =
     both-intro _ _ (both-intro _ _ (rows-then (read-shape w) (read w .rows) (rows .0) h) (rows .1)) (records .1) in
-    decides-before w 0 (u .headed) ∙ rw then
+    test-decides (records-allowed-before w) w 0 (u .headed) ∙ rw then
 
 held-then : (w : List ℕ) (s : Shape) (ts : List Trial) → HoldsJust w s ts → ((t : Trial) → List·Memᴰ t ts → inside s t ≡ true) → archive-rows-before w 0 ≡ 0
 unfolding trials
@@ -183,11 +170,7 @@ lines-same w (some v ∷ ls) h =
     judged-same w (Lent.start w (shape-on v) .refusal) 1 _ _
     (λ e. further-same (shape-on v) _ w (Lent.start w (shape-on v) .words) (opened-by (shape-on v)) 0 (started w (shape-on v) e .holds) (λ t m. unfold opened in absurd (List·Memᴰ·not-nil m)) ls h)
 
--- A card whose coordinates are at most its reference.
-abbrev Within : List ℕ → Type 0
-Within card = (t : Trial) → List·Memᴰ t (card-trials card) → inside (card-shape card) t ≡ true
-
-load-same : (w card : List ℕ) → Within card → Card.load w card ≡ load-by table-before w card
+load-same : (w card : List ℕ) → EachTrial (λ s t. inside s t ≡ true) card → Card.load w card ≡ load-by table-before w card
 unfolding Card.load load-by card-shape card-trials
 load-same w card h = lines-same w (lines card) h
 

@@ -121,6 +121,10 @@ check-by by card = packed (load-by by (replicate (extent 512) 0) card .answer)
 unfoldable pub short-output : List ℕ → List ℕ → ℕ
 short-output w out = guard (ltb (length out) (53 * (length (read w .rows) + 1))) 16 0
 
+-- So it is with every trial of the card under the card's shape.
+abbrev pub EachTrial : (Shape → Trial → Type 0) → List ℕ → Type 0
+EachTrial Point card = (t : Trial) → List·Memᴰ t (card-trials card) → Point (card-shape card) t
+
 -- Where the words, the points and the card are so, the calls that the contracts cite answer and leave what the calls by
 -- the table do.
 pub record CallsAlike (by : Table) (Words : List ℕ → Type 0) (Point : Shape → Trial → Type 0) : Type 0 where
@@ -136,8 +140,8 @@ pub record CallsAlike (by : Table) (Words : List ℕ → Type 0) (Point : Shape 
   pub report : (w out : List ℕ) → Words w → Report.report w out ≡ asked-by by w (short-output w out) (length (report-text (read w)))
   pub reported : (w out : List ℕ) → Words w
       → Report.reported w out ≡ output (by .archive w (short-output w out)) (report-text (read w)) out
-  pub load : (w card : List ℕ) → ((t : Trial) → List·Memᴰ t (card-trials card) → Point (card-shape card) t) → Card.load w card ≡ load-by by w card
-  pub check : (card : List ℕ) → ((t : Trial) → List·Memᴰ t (card-trials card) → Point (card-shape card) t) → Check.check card ≡ check-by by card
+  pub load : (w card : List ℕ) → EachTrial Point card → Card.load w card ≡ load-by by w card
+  pub check : (card : List ℕ) → EachTrial Point card → Check.check card ≡ check-by by card
 
 -- By the table of today the calls are those that the contracts cite, always. By the table as it was they are so on words
 -- that its rows 1 to 3 let pass, for points that its row 6 lets pass, and for cards whose coordinates are at most their

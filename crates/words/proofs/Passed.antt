@@ -12,7 +12,7 @@ use lib.Seq.{drop-at, take-at, drop-drop, take-take, take-add, slice, length-sli
 use borrow.Author.Tests.{leb-true, ltb-false, eqb-true, le-leb, le-ltb, not-false}
 use Rattle.slices.specs.Choices.{both}
 use Rattle.hypervolume.specs.Cells.{box}
-use Rattle.slices.proofs.Choices.{both-true, both-intro}
+use Rattle.slices.proofs.Choices.{both-true, both-intro, both-comm}
 use Rattle.words.specs.Archive.{Trial, point, Row, Shape, reference, Archive, trials}
 use Rattle.words.specs.Format.{guard, within, each, shape-allowed, number-allowed, coordinates-allowed, header-allowed, row-allowed, rows-allowed, ordered, distinct, sound-rows, zeros, unused, records-allowed, archive-rows}
 use Rattle.words.specs.Layout.{header, records, extent, layout, word, read-row, read-rows, read-shape, read, behind}
@@ -41,6 +41,11 @@ each-bounds low high (n ∷ l) e zero =
 each-bounds low high (n ∷ l) e (suc i) =
     let later = each-bounds low high l (both-true _ _ e .1) i in
     (λ m. later .0 (omega arith), later .1)
+
+-- On three axes, without the end of the list.
+pub each-three : (test : ℕ → Bool) (a b c : ℕ) → each test (a ∷ b ∷ c ∷ []) ≡ both (test a) (both (test b) (test c))
+unfolding each both
+each-three test a b c = ap (λ t. both (test a) (both (test b) t)) (both-comm (test c) true)
 
 -- The reference by its axis.
 pub record ShapeBounds (s : Shape) : Type 0 where
@@ -162,22 +167,31 @@ header-facts w h =
       within-box = leb-true _ _ (counted .1);
     }
 
+-- Rows 1 to 3, for any test of the records.
+abbrev pub rows-by : (test : Bool) → List ℕ → ℕ → ℕ
+rows-by test w rest =
+    guard (ltb (length w) 8) 1
+    (guard (not (header-allowed w)) 2 (guard (ltb (length w) (extent (word w 1))) 1 (guard (not test) 3 rest)))
+
 -- Once rows 1 and 2 have passed, row 3 decides.
-pub row-3-decides : (w : List ℕ) (rest : ℕ) → Headed w → archive-rows w rest ≡ guard (not (records-allowed w)) 3 rest
-unfolding archive-rows guard
-row-3-decides w rest h =
+pub test-decides : (test : Bool) (w : List ℕ) (rest : ℕ) → Headed w → rows-by test w rest ≡ guard (not test) 3 rest
+unfolding guard
+test-decides test w rest h =
     let facts : HeaderFacts w = header-facts w h in
     rw (le-ltb (length w) 8 (omega arith), h .allowed, le-ltb (length w) (extent (word w 1)) (h .whole))
 
+pub row-3-decides : (w : List ℕ) (rest : ℕ) → Headed w → archive-rows w rest ≡ guard (not (records-allowed w)) 3 rest
+unfolding archive-rows
+row-3-decides w rest h = test-decides (records-allowed w) w rest h
+
 -- No row turns the words down, and none of the call's own rows, `rest`.
-pub record Unrefused (w : List ℕ) (rest : ℕ) : Type 0 where
+pub record Unrefused (test : Bool) (w : List ℕ) (rest : ℕ) : Type 0 where
   pub headed : Headed w
-  pub records : records-allowed w ≡ true
+  pub records : test ≡ true
   pub call : rest ≡ 0
 
-pub unrefused : (w : List ℕ) (rest : ℕ) → archive-rows w rest ≡ 0 → Unrefused w rest
-unfolding archive-rows
-unrefused w rest e =
+pub test-unrefused : (test : Bool) (w : List ℕ) (rest : ℕ) → rows-by test w rest ≡ 0 → Unrefused test w rest
+test-unrefused test w rest e =
     let first = guard-none _ _ _ e in
     let second = guard-none _ _ _ (first .1) in
     let third = guard-none _ _ _ (second .1) in
@@ -188,10 +202,14 @@ unrefused w rest e =
       call = fourth .1;
     }
 
+pub unrefused : (w : List ℕ) (rest : ℕ) → archive-rows w rest ≡ 0 → Unrefused (records-allowed w) w rest
+unfolding archive-rows
+unrefused w rest e = test-unrefused (records-allowed w) w rest e
+
 pub passed-both : (w : List ℕ) (rest : ℕ) → archive-rows w rest ≡ 0 → (archive-rows w 0 ≡ 0) × (rest ≡ 0)
 unfolding guard
 passed-both w rest e =
-    let u : Unrefused w rest = unrefused w rest e in
+    let u = unrefused w rest e in
     (row-3-decides w 0 (u .headed) ∙ rw (u .records), u .call)
 
 -- Words in four parts.
@@ -222,7 +240,7 @@ laid-out w t z =
 pub passed : (w : List ℕ) → archive-rows w 0 ≡ 0 → Passed w
 unfolding read read-shape records-allowed sound-rows
 passed w e =
-    let u : Unrefused w 0 = unrefused w 0 e in
+    let u = unrefused w 0 e in
     let t : HeaderFacts w = header-facts w (u .headed) in
     let records = both-true _ _ (u .records) in
     let rows = both-true _ _ (records .0) in

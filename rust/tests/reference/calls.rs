@@ -1,6 +1,6 @@
 //! The calls on words, written from document 01's text: "The archive's words", "Calls" and
-//! "Where each call is turned down", with document 02's changes. An `Err` is a refusal number; lent memory is written only
-//! when nothing can be refused any more.
+//! "Where each call is turned down", with document 02's changes. An `Err` is a refusal number; lent
+//! memory is written only when nothing can be refused any more.
 
 use super::{box_of, gain_and_joints, totals, Point};
 use super::{MAX_CAPACITY, MAX_COORDINATE, MAX_NUMBER, MAX_REFERENCE};

@@ -1,6 +1,7 @@
-//! Documents 01 and 02 written out once more, plainly, to compare the library with. Nothing here is
-//! shared with the library, and the cells are counted by other means: one by one where the box
-//! is small, in blocks of a compressed grid where it is not.
+//! Document 01, with the requests of document 02 that have landed, written out once more, plainly,
+//! to compare the library with. Nothing here is shared with the library, and the cells are counted
+//! by other means: one by one where the box is small, in blocks of a compressed grid where it is
+//! not.
 
 pub mod blocks;
 pub mod book;

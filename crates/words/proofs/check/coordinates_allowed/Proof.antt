@@ -1,9 +1,7 @@
 -- `coordinates_allowed` meets its contract.
-use mathlib.Core.Bool.{true}
 use borrow.Author.Needs.{needs}
-use Rattle.slices.specs.Choices.{both}
-use Rattle.slices.proofs.Choices.{both-comm}
-use Rattle.words.specs.Format.{within, each, coordinates-allowed}
+use Rattle.words.specs.Format.{within, coordinates-allowed}
+use Rattle.words.proofs.Passed.{each-three}
 use Rattle.words.proofs.check.coordinates_allowed.Statement.{statement}
 use Rattle.words.proofs.check.coordinates_allowed.Tie as tie
 
@@ -23,8 +21,8 @@ both-requires-2 : tie.Need-both-requires-2
 both-requires-2 c κs = search needs
 
 returns : tie.Need-returns
-unfolding coordinates-allowed each both
-returns c = cc (both-comm (within 0 1048576 (c .before .before .before .before .before .args .row .z)) true)
+unfolding coordinates-allowed
+returns c = cc (each-three (within 0 1048576) _ _ _)
 
 pub coordinates-allowed-spec : {M : Type 1} → statement M
 coordinates-allowed-spec =

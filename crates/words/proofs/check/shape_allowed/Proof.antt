@@ -1,9 +1,7 @@
 -- `shape_allowed` meets its contract.
-use mathlib.Core.Bool.{true}
 use borrow.Author.Needs.{needs}
-use Rattle.slices.specs.Choices.{both}
-use Rattle.slices.proofs.Choices.{both-comm}
-use Rattle.words.specs.Format.{within, each, shape-allowed}
+use Rattle.words.specs.Format.{within, shape-allowed}
+use Rattle.words.proofs.Passed.{each-three}
 use Rattle.words.proofs.check.shape_allowed.Statement.{statement}
 use Rattle.words.proofs.check.shape_allowed.Tie as tie
 
@@ -29,8 +27,8 @@ both-requires-3 : tie.Need-both-requires-3
 both-requires-3 c κs = search needs
 
 returns : tie.Need-returns
-unfolding shape-allowed each both
-returns c = cc (both-comm (within 1 1048576 (c .before .before .before .before .before .before .before .args .s .rz)) true)
+unfolding shape-allowed
+returns c = cc (each-three (within 1 1048576) _ _ _)
 
 pub shape-allowed-spec : {M : Type 1} → statement M
 shape-allowed-spec =
