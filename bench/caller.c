@@ -1,11 +1,10 @@
 /*
  * A caller of every call: document 01's card and report, its "Counts to meet",
- * one meeting with each refusal, coordinates on both sides of every limit,
- * numbers as C passes them, and what the header defines: the structs' fields
- * and the lengths. Lent memory stands between
- * guards, and what a call only reads is compared after it. Prints what went
- * wrong, and at the end 'N passed, M failed'; ends with 1 where something
- * failed.
+ * shares at their ties, one meeting with each refusal, coordinates on both
+ * sides of every limit, numbers as C passes them, and what the header defines:
+ * the structs' fields and the lengths. Lent memory stands between guards, and
+ * what a call only reads is compared after it. Prints what went wrong, and at
+ * the end 'N passed, M failed'; ends with 1 where something failed.
  */
 #include "trial_archive.h"
 
@@ -341,9 +340,93 @@ static void counts_9_to_11(void)
 
     start(3, 1, 1);
     CHECK(insert(1, 1, 0, 0) == TA_DONE);
-    CHECK(is_answer(share(), TA_DONE, 666666));
+    CHECK(is_answer(share(), TA_DONE, 666667));
     insert_card(4);
     CHECK(is_answer(share(), TA_DONE, 328125));
+}
+
+/* ---- shares, against exact arithmetic in 128 bits */
+
+__extension__ typedef unsigned __int128 wide;
+
+/* The share of an archive that keeps this total and holds no trial: rows 1 to 3
+   ask only that the total is at most the box. An impossible one where refused. */
+static uint64_t share_of(uint64_t rx, uint64_t ry, uint64_t rz, uint64_t total)
+{
+    uint64_t one[TA_WORDS(1)];
+    ta_answer answer;
+
+    if (ta_start(one, LENGTH(one), rx, ry, rz, 1) != TA_DONE) {
+        return UINT64_MAX;
+    }
+    one[TA_TOTAL] = total;
+    answer = ta_share(one, LENGTH(one));
+    return answer.refusal == TA_DONE ? answer.value : UINT64_MAX;
+}
+
+/* What makes a number of millionths the right one: at most half of the box
+   from the total, times a million; and even at half. */
+static int is_nearest(uint64_t millionths, uint64_t total, uint64_t cells)
+{
+    wide exact = (wide)total * 1000000;
+    wide found = (wide)millionths * cells;
+    wide twice = 2 * (found < exact ? exact - found : found - exact);
+
+    return twice < cells || (twice == cells && millionths % 2 == 0);
+}
+
+static void ties_of_shares(void)
+{
+    const uint64_t most = TA_MAX_REFERENCE;
+    uint64_t odd;
+
+    CHECK(share_of(2, 1000, 1000, 1) == 0);
+    CHECK(share_of(2, 1000, 1000, 3) == 2);
+    CHECK(share_of(2, 1000, 1000, 5) == 2);
+    CHECK(share_of(2, 1000, 1000, 7) == 4);
+    CHECK(share_of(2, 1000, 1000, 1999997) == 999998);
+    CHECK(share_of(2, 1000, 1000, 1999999) == 1000000);
+    /* the ties of the largest box, and both sides of them */
+    for (odd = 1; odd < 128; odd += 2) {
+        uint64_t tie = odd << 53;
+        uint64_t below = 15625 * odd / 2;
+
+        CHECK(share_of(most, most, most, tie - 1) == below);
+        CHECK(share_of(most, most, most, tie) == below + below % 2);
+        CHECK(share_of(most, most, most, tie + 1) == below + 1);
+    }
+}
+
+/* Numbers that look random (xorshift). */
+static uint64_t next_random(void)
+{
+    static uint64_t state = 88172645463325252u;
+
+    state ^= state << 13;
+    state ^= state >> 7;
+    state ^= state << 17;
+    return state;
+}
+
+/* Totals next to half a millionth, and any others, of boxes up to the largest. */
+static void random_shares(void)
+{
+    int wrong = 0;
+    int i;
+
+    for (i = 0; i < 100000; i++) {
+        uint64_t rx = TA_MAX_REFERENCE - next_random() % 1000;
+        uint64_t ry = TA_MAX_REFERENCE - next_random() % 1000;
+        uint64_t rz = 1 + next_random() % TA_MAX_REFERENCE;
+        uint64_t cells = rx * ry * rz;
+        uint64_t half = (uint64_t)((2 * (wide)(next_random() % 1000000) + 1) * cells / 2000000);
+        uint64_t any = next_random() % (cells + 1);
+
+        wrong += !is_nearest(share_of(rx, ry, rz, half), half, cells);
+        wrong += !is_nearest(share_of(rx, ry, rz, half + 1), half + 1, cells);
+        wrong += !is_nearest(share_of(rx, ry, rz, any), any, cells);
+    }
+    CHECK(wrong == 0);
 }
 
 /* ---- document 01's card and report */
@@ -729,6 +812,8 @@ int main(void)
     counts_6_and_7();
     count_8();
     counts_9_to_11();
+    ties_of_shares();
+    random_shares();
     card_and_report();
     rows_1_to_3();
     rows_4_to_10();

@@ -291,7 +291,8 @@ ta_answer ta_gain(const uint64_t *words, size_t len,
                   uint64_t x, uint64_t y, uint64_t z);
 
 /*
- * The kept total in millionths of the box, rounded down.
+ * The kept total in millionths of the box, rounded to the nearest; a tie goes
+ * to the even number. At most 1000000.
  * Refusals: 1 to 3.
  */
 ta_answer ta_share(const uint64_t *words, size_t len);

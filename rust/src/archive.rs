@@ -97,7 +97,7 @@ impl Archive {
         words::gain(&self.words, point)
     }
 
-    /// The total in millionths of the box, rounded down.
+    /// The total in millionths of the box, rounded to the nearest; a tie goes to the even number.
     pub fn share(&self) -> Result<u64, Refusal> {
         words::share(&self.words)
     }

@@ -74,7 +74,7 @@ pub fn gain(words: &[u64], point: [u32; 3]) -> Result<u64, Refusal> {
     value(unsafe { sys::ta_gain(words.as_ptr(), words.len(), x, y, z) })
 }
 
-/// The kept total in millionths of the box, rounded down.
+/// The kept total in millionths of the box, rounded to the nearest; a tie goes to the even number.
 pub fn share(words: &[u64]) -> Result<u64, Refusal> {
     // SAFETY: pointer and length are those of one slice borrowed for the call.
     value(unsafe { sys::ta_share(words.as_ptr(), words.len()) })

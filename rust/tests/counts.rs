@@ -109,11 +109,12 @@ fn count_10_full_and_free_again() {
     assert_eq!(archive.insert(2, [2, 2, 2]), Ok(()));
 }
 
+/// As document 02, W-204 has it: rounded to the nearest.
 #[test]
 fn count_11_shares() {
     let mut thirds = Archive::start([3, 1, 1], 8).unwrap();
     thirds.insert(1, [1, 0, 0]).unwrap();
-    assert_eq!(thirds.share(), Ok(666_666));
+    assert_eq!(thirds.share(), Ok(666_667));
     assert_eq!(archive(&CARD).share(), Ok(328_125));
     let mut whole = Archive::start([1_048_576; 3], 1).unwrap();
     whole.insert(1, [0, 0, 0]).unwrap();

@@ -12,4 +12,5 @@ mod random_calls;
 mod reference;
 mod rng;
 mod scenes;
+mod shares;
 mod wrapper;

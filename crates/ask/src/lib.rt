@@ -1,6 +1,5 @@
 // The calls that only read an archive: least, joint, gain, share, audit; and the counts of its records behind them.
 mod counts;
-mod division;
 mod questions;
 
 pub use counts::count_joints;

@@ -2,13 +2,13 @@
 // rows 1 to 3 let pass.
 use crate::counts::count_all;
 use crate::counts::count_joints;
-use crate::division::millionths;
 use calls::Answer;
 use calls::LeastAnswer;
 use hypervolume::Point;
 use records::amount_at;
 use records::least_place;
 use records::some_differs;
+use rounding::millionths;
 use words::Row;
 use words::box_of;
 use words::coordinates_allowed;
@@ -147,7 +147,7 @@ fn share_in(w: &[u64]) -> Answer
     Answer::done(millionths(w[5], box_of(reference_of(w))))
 }
 
-// Share: the kept total in millionths of the box, rounded down.
+// Share: the kept total in millionths of the box, rounded to the nearest and at a tie to the even number.
 pub fn share(w: &[u64]) -> Answer
     ensures { λ r. ⌜ r ≡ share (now (w .entry)) ⌝ }
 {

@@ -1,10 +1,11 @@
 -- What is known of words that pass rows 1 to 3, for code that reads them.
-use Prim.Native.Nat.{ℕ, _+_, _*_, _≤_}
+use Prim.Native.Nat.{ℕ, _+_, _*_, _≤_, _<_}
 use mathlib.Core.Path.{_≡_}
 use mathlib.Core.Bool.{true}
 use mathlib.Core.List.{List}
+use native.Mathlib.Nat.{le-refl, one-le-mul}
 use native.Mathlib.Omega.{arith}
-use lib.ListN.{length, drop}
+use lib.ListN.{length, drop, getD}
 use Rattle.words.specs.Archive.{reference}
 use Rattle.words.specs.Layout.{read-shape, read, word}
 use Rattle.words.proofs.Reading.{length-read-rows}
@@ -42,3 +43,10 @@ known w e =
       box-small = box-bound (read-shape w) (p .bounds);
       sound = p .sound;
     }
+
+-- The box of words that pass has a cell.
+pub box-filled : (w : List ℕ) → archive-rows w 0 ≡ 0 → 1 ≤ box (reference (read-shape w))
+unfolding box
+box-filled w e =
+    let low : (axis : ℕ) → axis < 3 → 1 ≤ getD (reference (read-shape w)) axis 0 = passed w e .bounds .reference-low in
+    one-le-mul (low 0 (omega arith)) (one-le-mul (low 1 (omega arith)) (one-le-mul (low 2 (omega arith)) (le-refl 1)))

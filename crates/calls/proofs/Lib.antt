@@ -11,3 +11,4 @@ pub mod Moves
 pub mod Known
 pub mod Answers
 pub mod Lent
+pub mod Shares

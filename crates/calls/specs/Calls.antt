@@ -1,11 +1,12 @@
 -- The calls on an archive that has been read (document 01, "Calls"), and the rows of the table that turn them
 -- down after rows 1 to 3. Lent says what each of them answers and leaves in memory.
-use Prim.Native.Nat.{ℕ, zero, suc, _+_, _-_, _*_, _/_}
+use Prim.Native.Nat.{ℕ, zero, suc, _+_, _-_, _*_}
 use mathlib.Core.Bool.{Bool, true, false, not}
 use mathlib.Core.List.{List, _∷_, _++_, map, []}
 use lib.Dec.{ltb, eqb}
 use lib.ListN.{length}
 use Rattle.slices.specs.Choices.{both, pick, either}
+use Rattle.rounding.specs.Nearest.{nearest}
 use Rattle.hypervolume.specs.Cells.{box}
 use Rattle.hypervolume.specs.Counts.{total, contribution, joint, gain}
 use Rattle.words.specs.Archive.{Trial, Row, Shape, Archive, point, reference, trials, points, before}
@@ -148,9 +149,10 @@ joint-rows a m n =
 unfoldable pub gain-rows : Trial → ℕ
 gain-rows t = guard (not (coordinates-allowed t)) 6 0
 
--- "Share: the kept total (word 5) × 1,000,000 divided by the box, rounded down."
+-- "Share: the kept total (word 5) × 1,000,000 divided by the box", and by document 02, W-204, "rounded to the nearest,
+-- and a tie goes to the even number".
 unfoldable pub share-of : Archive → ℕ
-share-of a = a .sum * 1000000 / box-of a
+share-of a = nearest (a .sum * 1000000) (box-of a)
 
 -- "The audit answers yes exactly when the total and all contributions equal their counts."
 unfoldable pub rows-counted : Archive → List Row → Bool

@@ -1,6 +1,7 @@
 -- What each call answers and leaves: document 01, "Calls" and "Where each call is turned down". Read Calls, then Lent;
--- Counted is what the audit's yes means, Drops what a reduction drops.
+-- Shares is what a share can be, Counted what the audit's yes means, Drops what a reduction drops.
 pub mod Calls
 pub mod Lent
+pub mod Shares
 pub mod Counted
 pub mod Drops

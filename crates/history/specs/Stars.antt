@@ -150,8 +150,8 @@ small =
     -- 10. "Capacity 1: a second insertion gives 8; after a removal it is accepted."
     ∷ star (record { capacity = 1; rx = 4; ry = 4; rz = 4 })
     (done (insert 1 1 1 1) ∷ gives (insert 2 2 2 2) (8 ∷ []) ∷ done (remove 1) ∷ done (insert 2 2 2 2) ∷ [])
-    -- 11. "Reference (3,1,1), (1,0,0): share 666,666."
-    ∷ star (record { capacity = 8; rx = 3; ry = 1; rz = 1 }) (done (insert 1 1 0 0) ∷ gives share (0 ∷ 666666 ∷ []) ∷ [])
+    -- 11. "Reference (3,1,1), (1,0,0): share", and by document 02, W-204, "666,667".
+    ∷ star (record { capacity = 8; rx = 3; ry = 1; rz = 1 }) (done (insert 1 1 0 0) ∷ gives share (0 ∷ 666667 ∷ []) ∷ [])
     ∷ []
 
 -- 9. "Reference 1,048,576 on each axis, (0,0,0): total 1,152,921,504,606,846,976. Coordinate 1,048,577: 6."

@@ -1,6 +1,6 @@
 -- "Every formerly accepted call answers as before" (document 02, W-201). Until then rows 3 and 6 turned down a
 -- coordinate beyond the reference. That condition and the rows that read it stand here as they were; everything else of
--- the calls is what they share with the calls of today.
+-- the calls is what they share with the calls of today, the rounding of a share (W-204) with it.
 use Prim.Native.Nat.{ℕ, _+_, _*_, _-_}
 use mathlib.Core.Path.{_≡_}
 use mathlib.Core.Bool.{Bool, true, not}

@@ -218,10 +218,17 @@ pub fn gain(words: &[u64], point: Point) -> Result<u64, u64> {
     Ok(gain_and_joints(point, &archive.points(), archive.reference).0)
 }
 
+/// Of the two numbers next to the quotient the nearer one; where both are as near, the even one.
+fn nearest(dividend: u128, divisor: u128) -> u128 {
+    let below = dividend / divisor;
+    let from = |number: u128| (number * divisor).abs_diff(dividend);
+    [below, below + 1].into_iter().min_by_key(|&number| (from(number), number % 2)).unwrap()
+}
+
 pub fn share(words: &[u64]) -> Result<u64, u64> {
     let archive = read(words)?;
-    let millionths = u128::from(archive.total) * 1_000_000 / u128::from(box_of(archive.reference));
-    Ok(millionths as u64)
+    let millionths = u128::from(archive.total) * 1_000_000;
+    Ok(nearest(millionths, u128::from(box_of(archive.reference))) as u64)
 }
 
 pub fn audit(words: &[u64]) -> Result<bool, u64> {

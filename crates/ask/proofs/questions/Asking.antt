@@ -1,24 +1,22 @@
 -- Least, share, joint and gain: what their rows and values come to.
-use Prim.Native.Nat.{ℕ, suc, _*_, _/_, _≤_}
+use Prim.Native.Nat.{ℕ, suc, _*_, _≤_}
 use mathlib.Core.Path.{_≡_, refl, sym, ap, _∙_}
 use mathlib.Core.Bool.{true, false, not}
 use mathlib.Core.List.{List}
-use native.Mathlib.Nat.{le-refl, one-le-mul}
 use native.Mathlib.Omega.{arith}
 use lib.Dec.{eqb}
 use borrow.Author.Tests.{eq-eqb, ne-eqb}
 use lib.ListN.{length}
 use Rattle.slices.specs.Choices.{both}
-use Rattle.hypervolume.specs.Cells.{box}
+use Rattle.rounding.specs.Nearest.{nearest}
 use Rattle.words.specs.Archive.{Trial, Row, Archive}
-use Rattle.words.specs.Layout.{read, read-shape, word}
+use Rattle.words.specs.Layout.{read, word}
 use Rattle.words.specs.Format.{guard, archive-rows, coordinates-allowed, held}
 use Rattle.words.specs.Places.{rows-before}
-use Rattle.words.proofs.Passed.{shape-bounds}
 use Rattle.calls.specs.Calls.{held-trials, box-of, least-row, least-rows, joint-rows, gain-rows, share-of}
 use Rattle.calls.specs.Lent.{answer, least, share}
 use Rattle.calls.proofs.Answers.{guard-yes, guard-no, rows-refused, rows-passed, answer-refused, answer-done, least-refused, least-done}
-use Rattle.calls.proofs.Known.{known, Known, count-rows}
+use Rattle.calls.proofs.Known.{known, Known, count-rows, box-filled}
 
 -- Rows 1 to 3 refuse.
 pub answer-turned : (w : List ℕ) (r rest v : ℕ) → r ≡ archive-rows w 0 → (r ≡ 0 → ⊥)
@@ -57,19 +55,15 @@ least-found w found p n e =
 -- Share. The box has a cell, and the kept total is at most the box.
 pub share-asks : (w : List ℕ) (cells : ℕ) → archive-rows w 0 ≡ 0 → cells ≡ box-of (read w)
     → (1 ≤ cells) × (word w 5 ≤ cells) × (cells ≤ 1152921504606846976)
-unfolding read box
+unfolding read
 share-asks w cells p e =
-    let s = shape-bounds (read-shape w) (known w p .sound .shaped) in
     let k : Known w = known w p in
-    omega (arith, k, e, box-some (read-shape w .rx) (read-shape w .ry) (read-shape w .rz) (s .reference-low 0 (omega arith)) (s .reference-low 1 (omega arith)) (s .reference-low 2 (omega arith)))
-  where
-    box-some : (x y z : ℕ) → 1 ≤ x → 1 ≤ y → 1 ≤ z → 1 ≤ x * (y * (z * 1))
-    box-some x y z a b c = one-le-mul a (one-le-mul b (one-le-mul c (le-refl 1)))
+    omega (arith, k, e, box-filled w p)
 
 pub share-value : (w : List ℕ) (cells r : ℕ) → archive-rows w 0 ≡ 0 → cells ≡ box-of (read w)
-    → r ≡ word w 5 * 1000000 / cells → record { refusal = 0; value = r } ≡ share w
+    → r ≡ nearest (word w 5 * 1000000) cells → record { refusal = 0; value = r } ≡ share w
 unfolding share share-of read
-share-value w cells r p e f = answer-value w 0 r _ p refl (f ∙ ap (λ k. word w 5 * 1000000 / k) e)
+share-value w cells r p e f = answer-value w 0 r _ p refl (f ∙ ap (λ k. nearest (word w 5 * 1000000) k) e)
 
 -- The rows of joint.
 module _ (a : Archive) (m n : ℕ) where

@@ -1,9 +1,11 @@
 -- Long division, digit by digit: total × 10^i is quotient × whole and a rest below it.
 use Prim.Native.Nat.{ℕ, _+_, _*_, _/_, _%_, _^_, _≤_, _<_}
 use mathlib.Core.Path.{_≡_, sym, ap, _∙_}
-use native.Mathlib.Nat.{add-zero, add-mul, div-add-mod', div-eq-of-lt, le-of-mul-le-mul-right, le-trans, mod-lt, mul-add-div-right, mul-assoc, mul-comm, mul-le-mul-right, mul-one, mul-right-comm, pow-le-pow-right, pow-suc}
+use native.Mathlib.Nat.{add-mul, div-add-mod', le-of-mul-le-mul-right, le-trans, mod-lt, mul-assoc, mul-comm, mul-le-mul-right, mul-one, mul-right-comm, pow-le-pow-right, pow-suc}
 use native.Mathlib.Numerals.{add-one}
 use native.Mathlib.Omega.{arith}
+use Rattle.rounding.specs.Nearest.{rounded, nearest}
+use Rattle.rounding.proofs.Nearest.{nearest-parts}
 
 pub record Dividing (total whole quotient rest i : ℕ) : Type 0 where
   pub part : i ≤ 6
@@ -48,11 +50,12 @@ dividing-more {total} {whole} {quotient} {rest} {i} h l one le =
       small = small-quotient total whole _ (rest * 10 % whole) (i + 1) one le (omega arith) digits;
     }
 
-pub dividing-end : {total whole quotient rest i : ℕ} → Dividing total whole quotient rest i → 6 ≤ i → 1 ≤ whole → quotient ≡ total * 1000000 / whole
-dividing-end {total} {whole} {quotient} {rest} {i} h l one =
+-- Behind the last digit the quotient and the rest tell the nearest number.
+pub dividing-end : {total whole quotient rest i : ℕ} → Dividing total whole quotient rest i → 6 ≤ i → rounded quotient rest whole ≡ nearest (total * 1000000) whole
+dividing-end {total} {whole} {quotient} {rest} {i} h l =
     let six : i ≡ 6 = let part : i ≤ 6 = h .part in omega arith in
-    let digits : total * 10 ^ 6 ≡ quotient * whole + rest = ap (λ k. total * 10 ^ k) (sym six) ∙ h .digits in
-    sym (ap (λ k. k / whole) digits ∙ mul-add-div-right one quotient rest ∙ ap (λ k. quotient + k) (div-eq-of-lt (h .below)) ∙ add-zero quotient)
+    let digits : quotient * whole + rest ≡ total * 10 ^ 6 = sym (h .digits) ∙ ap (λ k. total * 10 ^ k) six in
+    nearest-parts quotient rest whole (h .below) ∙ ap (λ n. nearest n whole) digits
 
 -- One more digit fits a word.
 pub digit-fits : {total whole quotient rest i : ℕ} → Dividing total whole quotient rest i → i < 6 → 1 ≤ whole → total ≤ whole → quotient * 10 + rest * 10 / whole ≤ 1000000

@@ -1,9 +1,10 @@
--- `millionths` meets its contract: after i turns the quotient has i digits more.
+-- `millionths` meets its contract: after i turns the quotient has i digits more, and the rest behind the sixth rounds it.
 use Prim.Native.Nat.{_-_}
+use mathlib.Core.Path.{_∙_}
 use native.Mathlib.Omega.{arith}
-use Rattle.ask.proofs.division.Digits.{Dividing, dividing-none, dividing-more, dividing-end, digit-fits}
-use Rattle.ask.proofs.division.millionths.Statement.{statement}
-use Rattle.ask.proofs.division.millionths.Tie as tie
+use Rattle.rounding.proofs.Digits.{Dividing, dividing-none, dividing-more, dividing-end, digit-fits}
+use Rattle.rounding.proofs.millionths.Statement.{statement}
+use Rattle.rounding.proofs.millionths.Tie as tie
 
 abbrev Inv-loop : tie.InvT-loop
 Inv-loop total whole quotient₀ rest₀ counter₀ quotient rest counter = Dividing total whole quotient rest counter
@@ -49,8 +50,12 @@ loop-again : tie.Need-loop-again Inv-loop μ-loop
 loop-again c =
     dividing-more (c .before .loop .inv) (c .loop-test .taken) (c .before .before .pre .0) (c .before .before .pre .1)
 
+rounded-requires : tie.Need-rounded-requires Inv-loop μ-loop
+rounded-requires c κs =
+    (omega (arith, c .before .loop .inv .small), omega (arith, c .before .loop .inv .below), omega arith)
+
 returns : tie.Need-returns Inv-loop μ-loop
-returns c = dividing-end (c .before .loop .inv) (c .loop-test .left) (c .before .before .pre .0)
+returns c = c .rounded .ensures ∙ dividing-end (c .before .before .loop .inv) (c .before .loop-test .left)
 
 pub millionths-spec : {M : Type 1} → statement M
 millionths-spec =
@@ -70,4 +75,5 @@ millionths-spec =
     add-counter
     loop-less
     loop-again
+    rounded-requires
     returns)

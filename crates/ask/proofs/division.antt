@@ -1,2 +1,0 @@
--- Laws of the division.
-pub mod Digits

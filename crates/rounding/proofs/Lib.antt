@@ -1,0 +1,3 @@
+-- Laws of rounding to the nearest, and of the digits of a quotient.
+pub mod Nearest
+mod Digits

@@ -1,0 +1,2 @@
+-- What rounding to the nearest is.
+pub mod Nearest
