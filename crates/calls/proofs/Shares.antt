@@ -5,14 +5,12 @@ use mathlib.Core.List.{List}
 use native.Mathlib.Omega.{arith}
 use Rattle.rounding.specs.Nearest.{nearest, IsNearest}
 use Rattle.rounding.proofs.Nearest.{rounding}
-use Rattle.hypervolume.specs.Cells.{box}
-use Rattle.words.specs.Archive.{reference}
-use Rattle.words.specs.Layout.{read, read-shape, word}
+use Rattle.words.specs.Layout.{read, word}
 use Rattle.words.specs.Format.{archive-rows}
 use Rattle.calls.specs.Calls.{share-of, box-of}
 use Rattle.calls.specs.Lent.{answer, share}
 use Rattle.calls.specs.Shares.{ShareInMillionths}
-use Rattle.calls.proofs.Known.{Known, known, box-filled}
+use Rattle.calls.proofs.Known.{known, box-filled}
 
 module _ (w : List ℕ) where
   passed-value : archive-rows w 0 ≡ 0 → share w .value ≡ nearest (word w 5 * 1000000) (box-of (read w))
