@@ -3,15 +3,11 @@
 //! arithmetic in 128 bits.
 
 use crate::lend::{expect, Call};
-use crate::reference::{Point, MAX_REFERENCE};
+use crate::reference::{box_of, Point, MAX_REFERENCE};
 use crate::rng::{scenes, Rng};
 use trial_archive::Archive;
 
 const MILLION: u128 = 1_000_000;
-
-fn box_of(reference: Point) -> u64 {
-    reference.iter().product()
-}
 
 /// The share of an archive that holds nothing and keeps this total: rows 1 to 3 ask only that it
 /// is at most the box.
