@@ -1,8 +1,9 @@
 /*
  * A caller of every call: document 01's card and report, its "Counts to meet",
- * shares at their ties, one meeting with each refusal, coordinates on both
- * sides of every limit, numbers as C passes them, and what the header defines:
- * the structs' fields and the lengths. Lent memory stands between guards, and
+ * shares at their ties, the front and archives kept from before it, one meeting
+ * with each refusal, coordinates on both sides of every limit, numbers as C
+ * passes them, and what the header defines: the structs' fields and the
+ * lengths. Lent memory stands between guards, and
  * what a call only reads is compared after it. Prints what went wrong, and at
  * the end 'N passed, M failed'; ends with 1 where something failed.
  */
@@ -136,6 +137,7 @@ static int is_load(ta_load_answer answer, uint64_t refusal, uint64_t line, uint6
 /* ---- the calls that only read, with all memory compared after each */
 
 static uint64_t lent[LENGTH(memory)];
+static uint64_t before[LENGTH(memory)];
 
 static void remember(uint64_t *copy)
 {
@@ -429,6 +431,90 @@ static void random_shares(void)
     CHECK(wrong == 0);
 }
 
+/* ---- the front, word 6 */
+
+static void fronts(void)
+{
+    start(4, 4, 4);
+    CHECK(words[TA_FRONT] == 0);
+    CHECK(insert(1, 1, 2, 2) == TA_DONE);
+    CHECK(words[TA_FRONT] == 1);
+    /* equal to one on the front; beaten on one axis; beside it */
+    CHECK(insert(2, 1, 2, 2) == TA_DONE);
+    CHECK(words[TA_FRONT] == 2);
+    CHECK(insert(3, 1, 2, 3) == TA_DONE);
+    CHECK(words[TA_FRONT] == 2);
+    CHECK(insert(4, 1, 1, 3) == TA_DONE);
+    CHECK(words[TA_FRONT] == 3);
+    /* beyond the reference by the coordinates as kept */
+    CHECK(insert(5, 5, 0, 0) == TA_DONE);
+    CHECK(words[TA_FRONT] == 4);
+    CHECK(insert(6, 6, 0, 0) == TA_DONE);
+    CHECK(words[TA_FRONT] == 4);
+    CHECK(remove_trial(5) == TA_DONE);
+    CHECK(words[TA_FRONT] == 4);
+    CHECK(is_answer(audit(), TA_DONE, 1));
+    /* one alone */
+    CHECK(insert(7, 0, 0, 0) == TA_DONE);
+    CHECK(words[TA_FRONT] == 1);
+    CHECK(is_answer(audit(), TA_DONE, 1));
+    CHECK(is_answer(reduce(2, 8), TA_DONE, 4));
+    CHECK(words[TA_FRONT] == 1);
+    CHECK(remove_trial(7) == TA_DONE);
+    CHECK(words[TA_COUNT] == 1);
+    CHECK(words[TA_FRONT] == 1);
+    CHECK(is_answer(audit(), TA_DONE, 1));
+    /* all of them */
+    insert_card(4);
+    CHECK(words[TA_FRONT] == 4);
+    CHECK(is_answer(reduce(2, 4), TA_DONE, 2));
+    CHECK(words[TA_FRONT] == 2);
+}
+
+/* Kept from before the front: 0 in word 6, and all else counted. */
+static void kept_from_before(void)
+{
+    insert_card(4);
+    words[TA_FRONT] = 0;
+    CHECK(is_answer(audit(), TA_DONE, 0));
+    CHECK(is_least(least(), TA_DONE, 4, 1));
+    CHECK(is_answer(joint(1, 4), TA_DONE, 2));
+    CHECK(is_answer(gain(1, 1, 1), TA_DONE, 6));
+    CHECK(is_answer(share(), TA_DONE, 328125));
+    CHECK(is_answer(write_report(LENT, OUT), TA_DONE, TA_REPORT_BYTES(4)));
+    remember(before);
+    CHECK(is_answer(reduce(2, 4), TA_MISCOUNT, 0));
+    CHECK(is_answer(reduce(4, 0), TA_MISCOUNT, 0));
+    check_log(0);
+    CHECK(insert(1, 0, 0, 0) == TA_NUMBER_HELD);
+    CHECK(remove_trial(5) == TA_NOT_HELD);
+    check_untouched(before);
+    CHECK(insert(5, 2, 2, 2) == TA_DONE);
+    CHECK(words[TA_FRONT] == 4);
+    CHECK(is_answer(audit(), TA_DONE, 1));
+
+    insert_card(4);
+    words[TA_FRONT] = 0;
+    CHECK(remove_trial(4) == TA_DONE);
+    CHECK(words[TA_FRONT] == 3);
+    CHECK(is_answer(audit(), TA_DONE, 1));
+    CHECK(is_answer(reduce(2, 2), TA_DONE, 1));
+    CHECK(words[TA_FRONT] == 2);
+
+    /* counted anew, whatever stood there */
+    words[TA_FRONT] = 1;
+    CHECK(is_answer(audit(), TA_DONE, 0));
+    CHECK(insert(6, 0, 3, 3) == TA_DONE);
+    CHECK(words[TA_FRONT] == 3);
+    CHECK(is_answer(audit(), TA_DONE, 1));
+
+    /* an empty one is right as it is */
+    start(4, 4, 4);
+    words[TA_FRONT] = 0;
+    CHECK(is_answer(audit(), TA_DONE, 1));
+    CHECK(is_answer(reduce(0, 0), TA_DONE, 0));
+}
+
 /* ---- document 01's card and report */
 
 static const char card[] =
@@ -508,8 +594,6 @@ static void card_and_report(void)
 
 /* ---- the refusals, by their numbers: zeros for all else, memory as before */
 
-static uint64_t before[LENGTH(memory)];
-
 /* Rows 1 to 3, given by every call that reads an archive. */
 static void check_row(uint64_t row, size_t len)
 {
@@ -543,6 +627,12 @@ static void rows_1_to_3(void)
     check_row(TA_BAD_HEADER, 8);
     check_row(TA_SLICE_SHORT, 7);
     words[TA_TOTAL] = 21;
+    words[TA_FRONT] = 5;
+    check_row(TA_BAD_HEADER, LENT);
+    words[TA_FRONT] = 4;
+    words[TA_FRONT + 1] = 1;
+    check_row(TA_BAD_HEADER, LENT);
+    words[TA_FRONT + 1] = 0;
     words[WORDS - 1] = 1;
     check_row(TA_BAD_RECORDS, LENT);
     check_row(TA_SLICE_SHORT, WORDS - 1);
@@ -814,6 +904,8 @@ int main(void)
     counts_9_to_11();
     ties_of_shares();
     random_shares();
+    fronts();
+    kept_from_before();
     card_and_report();
     rows_1_to_3();
     rows_4_to_10();

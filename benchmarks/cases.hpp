@@ -71,6 +71,7 @@ inline Words fresh(Trials trials, std::size_t capacity, Point reference)
     for (std::size_t axis = 0; axis < 3; axis++)
         words[TA_REFERENCE + axis] = reference[axis];
     words[TA_TOTAL] = textbook::total(points_of(trials), reference);
+    words[TA_FRONT] = textbook::front(points_of(trials));
     std::size_t at = TA_RECORDS;
     for (std::size_t i : order) {
         for (std::uint64_t word :

@@ -88,6 +88,17 @@ inline std::vector<Count> alone(const std::vector<Point> &points, Point referenc
     return result;
 }
 
+// How many points no other one beats, being at most equal on all axes and smaller on at least one.
+inline Count front(const std::vector<Point> &points)
+{
+    auto beats = [](Point p, Point q) {
+        return p[0] <= q[0] && p[1] <= q[1] && p[2] <= q[2] && p != q;
+    };
+    return static_cast<Count>(std::count_if(points.begin(), points.end(), [&](Point q) {
+        return std::none_of(points.begin(), points.end(), [&](Point p) { return beats(p, q); });
+    }));
+}
+
 } // namespace textbook
 
 #endif

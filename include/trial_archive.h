@@ -16,6 +16,9 @@
  *     joint          cells that both trials dominate and no third does
  *     gain           cells that the point dominates and no trial does
  *   Equal trials are several trials: each of them contributes 0.
+ *   A trial is on the front where no other trial is at most equal on all axes
+ *   and smaller on at least one, by the coordinates as held, beyond the
+ *   reference too. Equal trials can both be on it.
  *
  * THE ARCHIVE'S WORDS
  *   An archive is a lent slice of 64-bit words, passed as pointer and length
@@ -24,12 +27,18 @@
  *     word 1        capacity, 1 to 512
  *     words 2 to 4  rx, ry, rz
  *     word 5        total
- *     words 6, 7    zero
+ *     word 6        how many trials are on the front
+ *     word 7        zero
  *     from word 8   records of five words: trial number (1 to 9,999,999),
  *                   x, y, z (0 to 1,048,576 each), contribution; ascending by
  *                   z, then y, then x, then trial number; the words of unused
  *                   records are zero
  *   Words from 8 + 5 * capacity on are neither read nor written.
+ *   Word 6 is counted anew, whatever it held, by each ta_start, ta_insert,
+ *   ta_remove, ta_reduce and ta_card_load that is done. In archives kept from
+ *   before it was counted it is 0: where trials are held, ta_audit says no and
+ *   ta_reduce is refused (13) until an insertion or a removal is done; all
+ *   other calls are as ever.
  *
  * ANSWERS AND REFUSALS
  *   Every call ends, with any words, any card and any arguments, in the
@@ -163,6 +172,7 @@ extern "C" {
 #define TA_CAPACITY 1
 #define TA_REFERENCE 2
 #define TA_TOTAL 5
+#define TA_FRONT 6
 #define TA_RECORDS 8
 #define TA_RECORD_WORDS 5
 
@@ -177,8 +187,8 @@ enum {
     /* Archive slice: fewer than 8 words; or, after row 2 has passed, fewer
        than 8 + 5 * capacity. */
     TA_SLICE_SHORT = 1,
-    /* Header: capacity, a reference word or words 6 and 7 not as above; count
-       above capacity; total above the box. */
+    /* Header: capacity or a reference word out of range; count above capacity;
+       total above the box; word 6 above the count; word 7 not zero. */
     TA_BAD_HEADER = 2,
     /* Records: number or coordinate out of range, contribution above the box,
        order broken, a number twice, an unused word not zero. */
@@ -298,8 +308,8 @@ ta_answer ta_gain(const uint64_t *words, size_t len,
 ta_answer ta_share(const uint64_t *words, size_t len);
 
 /*
- * 1 (yes) exactly when the kept total and all kept contributions equal their
- * counts, else 0 (no).
+ * 1 (yes) exactly when the kept total, the front's size in word 6 and all kept
+ * contributions equal their counts, else 0 (no).
  * Refusals: 1 to 3.
  */
 ta_answer ta_audit(const uint64_t *words, size_t len);

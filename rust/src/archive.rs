@@ -48,7 +48,7 @@ impl Archive {
     }
 
     /// An archive from words kept elsewhere, as [`Archive::words`] gives them; words behind the
-    /// archive are dropped. Whether total and contributions are right is [`Archive::audit`]'s
+    /// archive are dropped. Whether total, front and contributions are right is [`Archive::audit`]'s
     /// to say.
     pub fn from_words(words: Vec<u64>) -> Result<Archive, Refusal> {
         // Share is turned down by the checks of the words and by nothing else.
@@ -102,8 +102,8 @@ impl Archive {
         words::share(&self.words)
     }
 
-    /// Whether the total and all contributions equal their counts. It can be false only after
-    /// [`Archive::from_words`].
+    /// Whether the total, the front and all contributions equal their counts. It can be false only
+    /// after [`Archive::from_words`].
     pub fn audit(&self) -> Result<bool, Refusal> {
         words::audit(&self.words)
     }
@@ -134,6 +134,12 @@ impl Archive {
     /// The kept total.
     pub fn total(&self) -> u64 {
         self.words[5]
+    }
+
+    /// The kept size of the front: how many trials no other trial beats, being at most equal on
+    /// all axes and smaller on at least one.
+    pub fn front(&self) -> usize {
+        self.words[6] as usize
     }
 
     /// The trials held, in archive order.

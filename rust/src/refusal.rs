@@ -10,8 +10,8 @@ use std::fmt;
 pub enum Refusal {
     /// Archive slice: fewer than 8 words, or fewer than 8 + 5 × capacity.
     SliceShort = 1,
-    /// Header: capacity, a reference word or words 6 and 7 not as the layout says; count above
-    /// capacity; total above the box.
+    /// Header: capacity or a reference word out of range; count above capacity; total above the
+    /// box; word 6 above the count; word 7 not zero.
     BadHeader = 2,
     /// Records: number or coordinate out of range, contribution above the box, order broken, a
     /// number twice, an unused word not zero.
@@ -100,7 +100,7 @@ impl fmt::Display for Refusal {
             Refusal::SameNumber => "the same trial number twice",
             Refusal::AboveCount => "k above the count of trials",
             Refusal::LogShort => "log too short",
-            Refusal::Miscount => "kept total or contributions do not fit the trials",
+            Refusal::Miscount => "kept total, front or contributions do not fit the trials",
             Refusal::NoneHeld => "no trial held",
             Refusal::CardForm => "card line not of the form",
             Refusal::OutputShort => "output too short",

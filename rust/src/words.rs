@@ -80,7 +80,7 @@ pub fn share(words: &[u64]) -> Result<u64, Refusal> {
     value(unsafe { sys::ta_share(words.as_ptr(), words.len()) })
 }
 
-/// Whether the kept total and all kept contributions equal their counts.
+/// Whether the kept total, the kept front and all kept contributions equal their counts.
 pub fn audit(words: &[u64]) -> Result<bool, Refusal> {
     // SAFETY: pointer and length are those of one slice borrowed for the call.
     value(unsafe { sys::ta_audit(words.as_ptr(), words.len()) }).map(|yes| yes == 1)

@@ -77,7 +77,7 @@ fn lengths_of_the_slice() {
 
 #[test]
 fn row_1_stands_around_row_2_and_before_row_3() {
-    let header = with(&[(6, 1)]);
+    let header = with(&[(7, 1)]);
     let records = with(&[(8, 0)]);
     for length in 0..=51 {
         all_refused(&header[..length], if length < 8 { 1 } else { 2 });
@@ -90,8 +90,12 @@ fn row_2_counts_and_capacities() {
     for count in [9, 512, 1 << 32, 4 | 1 << 32, 4 | 1 << 63, u64::MAX] {
         all_refused(&with(&[(0, count)]), 2);
     }
-    // Fewer trials than there are records, or more.
-    for count in [0, 3, 5, 8] {
+    // Fewer trials than there are records, or more; all four are on the front.
+    for count in [0, 3] {
+        all_refused(&with(&[(0, count)]), 2);
+        all_refused(&with(&[(0, count), (6, 0)]), 3);
+    }
+    for count in [5, 8] {
         all_refused(&with(&[(0, count)]), 3);
     }
     for capacity in
@@ -132,10 +136,26 @@ fn row_2_references_and_totals() {
         edits.push((5, total));
         expect(&Call::Share, &with(&edits), row);
     }
-    for word in [6, 7] {
-        for value in [1, 1 << 32, 1 << 63, u64::MAX] {
-            all_refused(&with(&[(word, value)]), 2);
-        }
+    for value in [1, 1 << 32, 1 << 63, u64::MAX] {
+        all_refused(&with(&[(7, value)]), 2);
+    }
+}
+
+/// Document 02, W-209: word 6 up to the count.
+#[test]
+fn row_2_fronts() {
+    assert_eq!(card_words()[6], 4);
+    for front in 0..=4 {
+        passes(&with(&[(6, front)]));
+    }
+    for front in [5, 8, 9, 4 | 1 << 32, 4 | 1 << 63, u64::MAX] {
+        all_refused(&with(&[(6, front)]), 2);
+    }
+    let empty = words_of([4, 4, 4], 8, &[]);
+    for (front, row) in [(0, 0), (1, 2), (8, 2)] {
+        let mut words = empty.clone();
+        words[6] = front;
+        expect(&Call::Share, &words, row);
     }
 }
 

@@ -112,7 +112,7 @@ fn single(shape: [u64; 4], [number, x, y, z]: [u64; 4]) -> Vec<u64> {
     let mut words = empty(shape);
     let edge = |axis: usize, at| shape[axis].saturating_sub(at);
     let cells = edge(1, x) * edge(2, y) * edge(3, z);
-    (words[0], words[5]) = (1, cells);
+    (words[0], words[5], words[6]) = (1, cells, 1);
     words[8..13].copy_from_slice(&[number, x, y, z, cells]);
     words
 }

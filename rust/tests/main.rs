@@ -6,6 +6,7 @@ mod cards;
 mod counting;
 mod counts;
 mod examples;
+mod fronts;
 mod histories;
 mod lend;
 mod random_calls;

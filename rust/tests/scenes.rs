@@ -133,9 +133,18 @@ impl Shape {
     }
 }
 
-/// Total or contributions as nobody counted them, but within the box.
+/// Total, front or contributions as nobody counted them, but within the box and the count. One in
+/// four is as an archive kept from before the front: word 6 is zero and all else is counted.
 pub fn foreign(rng: &mut Rng, words: &mut [u64]) {
     let cells = words[2] * words[3] * words[4];
+    if rng.chance(25) {
+        words[6] = 0;
+        return;
+    }
+    if rng.chance(30) {
+        let front = [0, just_below(words[6]), just_above(words[6]), rng.within(0..=words[0])];
+        words[6] = rng.pick(&front).min(words[0]);
+    }
     for _ in 0..rng.within(1..=3) {
         let record = rng.within(0..=words[0]) as usize;
         let at = if record == 0 { 5 } else { 7 + 5 * record };
@@ -220,6 +229,7 @@ fn damage_header(rng: &mut Rng, words: &mut [u64]) {
         }
         2..=4 => vec![0, 1, just_below(old), just_above(old), MAX_REFERENCE, MAX_REFERENCE + 1],
         5 => vec![cells_of(words), just_above(cells_of(words))],
+        6 => vec![0, words[0], just_above(words[0]), words[1]],
         _ => vec![1],
     };
     words[at] = if rng.chance(20) { high(rng, old) } else { rng.pick(&near) };

@@ -54,7 +54,7 @@ fn words_kept_elsewhere() {
     assert_eq!(foreign.reduce(0), Err(Refusal::Miscount));
     words[9] = 1_048_577;
     assert_eq!(Archive::from_words(words.clone()), Err(Refusal::BadRecords));
-    words[6] = 1;
+    words[6] = 2;
     assert_eq!(Archive::from_words(words.clone()), Err(Refusal::BadHeader));
     words.truncate(7);
     assert_eq!(Archive::from_words(words), Err(Refusal::SliceShort));

@@ -1,5 +1,5 @@
 // Runs a script of calls on an archive, from standard input: the refusals at their limits, and what is just not refused.
-// Prints how many lines came out as they should.
+// Prints how many of its lines came out as they should.
 use calls::Answer;
 use testing::at;
 use testing::one;
@@ -131,10 +131,23 @@ fn script(text: &[u8], w: &mut [u64]) -> u64
     right
 }
 
+// How many lines there are, without comments and empty ones.
+fn lines(text: &[u8]) -> u64 {
+    let mut all: u64 = 0;
+    let mut place: usize = 0;
+    while place < text.len() {
+        let name = text[place];
+        all = all % 1000000 + one(name != b'#' && name != b'\n');
+        place = testing::next_line(text, place);
+    }
+    all
+}
+
 fn main() {
     let mut text = io::large_buffer();
     let mut w = [7u64; 2568];
     let n = io::read_full(0, &mut text);
-    testing::print(b"archive: ", script(&text[..n], &mut w));
-    io::write_all(1, b" lines as they should be\n");
+    testing::print(b"archive: ", lines(&text[..n]));
+    testing::print(b" lines, ", script(&text[..n], &mut w));
+    io::write_all(1, b" as they should be\n");
 }

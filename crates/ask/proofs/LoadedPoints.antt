@@ -1,6 +1,6 @@
 -- The points loaded of an archive's records are what the sweep and the update ask for, and their counts are the archive's.
 use Prim.Native.Nat.{ℕ, _≤_}
-use mathlib.Core.Path.{_≡_, ap, ap₂, _∙_}
+use mathlib.Core.Path.{_≡_, sym, ap, ap₂, _∙_}
 use mathlib.Core.List.{List, _++_}
 use native.Mathlib.Omega.{arith}
 use lib.ListN.{length, take, drop}
@@ -15,7 +15,7 @@ use Rattle.words.specs.Layout.{read, read-shape, word}
 use Rattle.words.specs.Format.{archive-rows}
 use Rattle.words.specs.Places.{rows-before}
 use Rattle.words.proofs.Passed.{passed}
-use Rattle.calls.proofs.Known.{count-rows}
+use Rattle.calls.proofs.Known.{count-rows, known}
 use Rattle.records.specs.Columns.{leave-out}
 use Rattle.records.specs.Loaded.{PointsLoaded}
 use Rattle.records.proofs.HeldPoints.{loaded-sorted, length-points}
@@ -37,6 +37,18 @@ loaded {w} {r} {k} {m} {before} {after} p l e =
       many =
           let size : length (take m after) ≡ length (leave-out k (rows-before w (word w 0))) = ap length (l .held) ∙ length-points (leave-out k (rows-before w (word w 0))) in
           omega (arith, l .many, l .few);
+      under = e;
+    }
+
+-- All records.
+pub all-loaded : (w : List ℕ) {r : List ℕ} {ps : List (List ℕ)} → archive-rows w 0 ≡ 0 → ps ≡ points (trials (read w .rows)) → r ≡ reference (read-shape w) → Loaded w (word w 0) ps r
+unfolding read
+all-loaded w {r} {ps} p l e =
+    let size : length (rows-before w (word w 0)) ≡ word w 0 = count-rows w in
+    record {
+      passes = p;
+      held = l ∙ ap (λ rows. points (trials rows)) (sym (leave-none (rows-before w (word w 0)) (word w 0) (omega arith)));
+      many = omega (arith, ap length l, length-points (rows-before w (word w 0)), known w p .few);
       under = e;
     }
 

@@ -10,19 +10,18 @@ ghost use mathlib.Core.Path.{_≡_};
 ghost use Prim.Native.Nat.{_≤_};
 ghost use lib.ListN.{length};
 ghost use Rattle.hypervolume.specs.Sorted.{Small};
-ghost use Rattle.words.specs.Layout.{word};
+ghost use Rattle.words.specs.Layout.{read, word};
 ghost use Rattle.words.specs.Format.{archive-rows};
+ghost use Rattle.calls.specs.Calls.{held-points};
 ghost use Rattle.ask.specs.RecordCounts.{CountedAll, CountedJoints};
 
-// The total of all records, and in `out` the contribution of each.
-pub fn count_all(w: &[u64], out: &mut [u64]) -> u64
-    requires { ⌜ (archive-rows (now w) 0 ≡ 0) × (512 ≤ length (now out)) ⌝ }
+// The total of all records, whose points these are, and in `out` the contribution of each.
+pub fn count_all(w: &[u64], points: &[[u32; 3]], out: &mut [u64]) -> u64
+    requires { ⌜ (archive-rows (now w) 0 ≡ 0) × (now points ≡ held-points (read (now w))) × (512 ≤ length (now out)) ⌝ }
     ensures { λ r. ⌜ CountedAll (now (w .entry)) (now (out .entry)) (now (out .exit)) r ⌝ }
 {
-    let mut points = [[0u32, 0, 0]; 512];
     let mut line = [0u64; 512];
-    let m = load_points(w, w[0] as usize, &mut points);
-    sweep(&points[..m], reference_of(w), &mut line, out)
+    sweep(points, reference_of(w), &mut line, out)
 }
 
 // The gain of p over the records but the one at place `skip` (over all where skip is the count), and its joint count

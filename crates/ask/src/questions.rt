@@ -4,9 +4,11 @@ use crate::counts::count_all;
 use crate::counts::count_joints;
 use calls::Answer;
 use calls::LeastAnswer;
+use front::front;
 use hypervolume::Point;
 use records::amount_at;
 use records::least_place;
+use records::load_points;
 use records::some_differs;
 use rounding::millionths;
 use words::Row;
@@ -21,7 +23,7 @@ ghost use Prim.Native.Nat.{_<_};
 ghost use Rattle.words.specs.Layout.{word, read};
 ghost use Rattle.words.specs.Format.{archive-rows};
 ghost use Rattle.words.specs.Places.{as-row, row-at};
-ghost use Rattle.calls.specs.Calls.{audited, joint-of};
+ghost use Rattle.calls.specs.Calls.{held-points, audited, joint-of};
 ghost use Rattle.records.specs.Columns.{place-but};
 ghost use Rattle.calls.specs.Lent.{least, share, joint, gain-answer, audit, trial-of};
 
@@ -158,18 +160,30 @@ pub fn share(w: &[u64]) -> Answer
     share_in(w)
 }
 
-// Whether the total and all contributions equal their counts.
+// Whether the total, the front and all contributions equal their counts; these are the points of all records.
+fn counts_agree(w: &[u64], points: &[[u32; 3]]) -> bool
+    requires { ⌜ (archive-rows (now w) 0 ≡ 0) × (now points ≡ held-points (read (now w))) ⌝ }
+    ensures { λ r. ⌜ r ≡ audited (read (now (w .entry))) ⌝ }
+{
+    let mut counts = [0u64; 512];
+    let total = count_all(w, points, &mut counts);
+    if w[5] != total {
+        return false;
+    }
+    if w[6] != front(points) {
+        return false;
+    }
+    !some_differs(w, &counts[..points.len()])
+}
+
+// The audit's answer, for words that rows 1 to 3 let pass.
 pub fn audited(w: &[u64]) -> bool
     requires { ⌜ archive-rows (now w) 0 ≡ 0 ⌝ }
     ensures { λ r. ⌜ r ≡ audited (read (now (w .entry))) ⌝ }
 {
-    let n = w[0] as usize;
-    let mut counts = [0u64; 512];
-    let total = count_all(w, &mut counts);
-    if w[5] != total {
-        return false;
-    }
-    !some_differs(w, &counts[..n])
+    let mut points = [[0u32, 0, 0]; 512];
+    let m = load_points(w, w[0] as usize, &mut points);
+    counts_agree(w, &points[..m])
 }
 
 // Audit: 1 for yes.

@@ -1,4 +1,4 @@
--- Counted archives: insertion and removal keep total and contributions equal to their counts, the audit tells
+-- Counted archives: insertion and removal keep total, front and contributions equal to their counts, the audit tells
 -- whether they are, and row 13 never comes where they are.
 use Prim.Native.Nat.{ℕ, _+_, _-_, _≤_}
 use mathlib.Core.Path.{_≡_, refl, sym, ap, _∙_}
@@ -9,13 +9,14 @@ use native.Mathlib.Omega.{arith}
 use lib.Dec.{eqb}
 use borrow.Author.Tests.{eqb-true, eq-eqb, le-ltb}
 use Rattle.hypervolume.specs.Counts.{total, contribution, joint, gain}
+use Rattle.hypervolume.specs.Front.{front}
 use Rattle.slices.proofs.Choices.{both-true, both-intro, neither}
 use Rattle.hypervolume.proofs.Dominance.{Among, among-member}
 use Rattle.hypervolume.proofs.Counting.{SameCover, total-same, contribution-same, total-more, contribution-new, contribution-more, total-le-box, contribution-le-box, total-none}
 use Rattle.words.specs.Archive.{Trial, Row, Shape, Archive, point, trials, points}
 use Rattle.words.specs.Format.{held, distinct}
 use Rattle.calls.specs.Calls.{held-trials, held-points, reference-of, box-of, empty, place, insert-gain, joint-with, lowered, inserted, falls-below, insert-overruns, row-of, others, without, removal-loss, raised, removed, exceeds, remove-overruns, rows-counted, audited}
-use Rattle.calls.specs.Counted.{IsCounted, counted-row, counted}
+use Rattle.calls.specs.Counted.{IsCounted, CountedButFront, counted-row, counted}
 use Rattle.calls.proofs.Members.{tested-each, each-tested, map-on, map-map, map-id, trials-map, place-map, place-member, place-cover, others-member, Split, split}
 
 -- A list of trials with one more, in whatever place: what the counts of the two have to do with each other.
@@ -53,13 +54,17 @@ contribution-inserted a t q m =
     contribution-with (reference-of a) (held-points a) (held-points (inserted a t)) (point t) (inserted-cover a t)
     (point (q .trial)) (row-among (a .rows) q m)
 
-pub inserted-counted : (a : Archive) (t : Trial) → IsCounted a → IsCounted (inserted a t)
+pub but-front : {a : Archive} → IsCounted a → CountedButFront a
+but-front h = record { sum = h .sum; rows = h .rows }
+
+pub inserted-anew : (a : Archive) (t : Trial) → CountedButFront a → IsCounted (inserted a t)
 unfolding inserted insert-gain lowered points
-inserted-counted a t h =
+inserted-anew a t h =
     record {
       sum =
           ap (λ k. k + insert-gain a t) (h .sum)
           ∙ sym (total-with (reference-of a) (held-points a) (held-points (inserted a t)) (point t) (inserted-cover a t));
+      front = refl;
       rows = λ q m. go q (List·Memᴰ·cases-cons (place-member (λ u. u .trial) q _ _ m));
     }
   where
@@ -74,6 +79,9 @@ inserted-counted a t h =
         → q .kept ≡ contribution (reference-of a) (held-points (inserted a t)) (point (q .trial))
     go q (inl e) = rw e (sym (contribution-with-new (reference-of a) (held-points a) (held-points (inserted a t)) (point t) (inserted-cover a t)))
     go q (inr m) = moved q (Memᴰ·of-map (lowered a t) (a .rows) m)
+
+pub inserted-counted : (a : Archive) (t : Trial) → IsCounted a → IsCounted (inserted a t)
+inserted-counted a t h = inserted-anew a t (but-front h)
 
 -- The trials after a removal.
 pub removed-trials : (a : Archive) (n : ℕ) → held-trials (removed a n) ≡ held-trials (without a n)
@@ -101,15 +109,16 @@ loss-kept a n h p =
     h .rows (row-of n (a .rows)) (p .member)
     ∙ contribution-with-new (reference-of a) (held-points (without a n)) (held-points a) (point (row-of n (a .rows) .trial)) (p .covers)
 
-pub removed-counted : (a : Archive) (n : ℕ) → IsCounted a → Split n (a .rows) → IsCounted (removed a n)
+pub removed-anew : (a : Archive) (n : ℕ) → CountedButFront a → Split n (a .rows) → IsCounted (removed a n)
 unfolding removed raised
-removed-counted a n h p =
+removed-anew a n h p =
     record {
       sum =
           let was = h .sum in
           let now = total-removed a n p in
           let left : a .sum - removal-loss a n ≡ total (reference-of a) (held-points (without a n)) = omega arith in
           left ∙ ap (λ ts. total (reference-of a) (points ts)) (sym (removed-trials a n));
+      front = refl;
       rows = λ q m. moved q (Memᴰ·of-map _ (others n (a .rows)) m);
     }
   where
@@ -122,15 +131,23 @@ removed-counted a n h p =
         let now = contribution-removed a n p (w .0) (w .1) in
         omega arith)
 
--- "The audit answers yes exactly when the total and all contributions equal their counts."
+pub removed-counted : (a : Archive) (n : ℕ) → IsCounted a → Split n (a .rows) → IsCounted (removed a n)
+removed-counted a n h p = removed-anew a n (but-front h) p
+
+-- "The audit answers yes exactly when the total and all contributions equal their counts", and the front.
 unfoldable RowCounted : Archive → Row → Type 0
 RowCounted a r = r .kept ≡ contribution (reference-of a) (held-points a) (point (r .trial))
 
 pub audited-counted : (a : Archive) → audited a ≡ true → IsCounted a
 unfolding audited rows-counted RowCounted
 audited-counted a e =
-    let parts = both-true (eqb (a .sum) (total (reference-of a) (held-points a))) (rows-counted a (a .rows)) e in
-    record { sum = eqb-true _ _ (parts .0); rows = tested-each (rows-counted a) true (RowCounted a) each (a .rows) (parts .1) }
+    let parts = both-true (eqb (a .sum) (total (reference-of a) (held-points a))) _ e in
+    let rest = both-true (eqb (a .front) (front (held-points a))) (rows-counted a (a .rows)) (parts .1) in
+    record {
+      sum = eqb-true _ _ (parts .0);
+      front = eqb-true _ _ (rest .0);
+      rows = tested-each (rows-counted a) true (RowCounted a) each (a .rows) (rest .1);
+    }
   where
     each : (r : Row) (rows : List Row) → rows-counted a (r ∷ rows) ≡ true → RowCounted a r × (rows-counted a rows ≡ true)
     each r rows k = let parts = both-true _ _ k in (eqb-true (r .kept) _ (parts .0), parts .1)
@@ -139,7 +156,8 @@ pub counted-audited : (a : Archive) → IsCounted a → audited a ≡ true
 unfolding audited rows-counted RowCounted
 counted-audited a h =
     both-intro _ _ (eq-eqb (a .sum) (total (reference-of a) (held-points a)) (h .sum))
-    (each-tested (rows-counted a) true (RowCounted a) refl (λ r rows k later. both-intro _ _ (eq-eqb (r .kept) _ k) later) (a .rows) (h .rows))
+    (both-intro _ _ (eq-eqb (a .front) (front (held-points a)) (h .front))
+    (each-tested (rows-counted a) true (RowCounted a) refl (λ r rows k later. both-intro _ _ (eq-eqb (r .kept) _ k) later) (a .rows) (h .rows)))
 
 -- A counted archive is the counted archive of its trials, and that one is counted.
 pub counted-trials : (s : Shape) (ts : List Trial) → held-trials (counted s ts) ≡ ts
@@ -151,6 +169,7 @@ unfolding counted counted-row
 counted-is-counted s ts =
     record {
       sum = ap (λ us. total (reference-of (counted s ts)) (points us)) (sym (counted-trials s ts));
+      front = ap (λ us. front (points us)) (sym (counted-trials s ts));
       rows = λ q m. each q (Memᴰ·of-map (counted-row s ts) ts m);
     }
   where
@@ -162,7 +181,7 @@ counted-is-counted s ts =
 
 pub is-counted : (a : Archive) → IsCounted a → a ≡ counted (a .shape) (held-trials a)
 unfolding counted counted-row trials
-is-counted a h = λ i. record { shape = a .shape; sum = h .sum i; rows = same i }
+is-counted a h = λ i. record { shape = a .shape; sum = h .sum i; front = h .front i; rows = same i }
   where
     row : Row → Row
     row r = counted-row (a .shape) (held-trials a) (r .trial)
@@ -179,8 +198,8 @@ audited-iff a =
 
 -- An archive just started, insertion and removal, in terms of the trials alone.
 pub empty-counted : (s : Shape) → empty s ≡ counted s []
-unfolding empty counted points
-empty-counted s = λ i. record { shape = s; sum = sym (total-none (reference-of (empty s))) i; rows = [] }
+unfolding empty counted trials points
+empty-counted s = λ i. record { shape = s; sum = sym (total-none (reference-of (empty s))) i; front = front []; rows = [] }
 
 pub counted-insert : (s : Shape) (ts : List Trial) (t : Trial) → inserted (counted s ts) t ≡ counted s (place (λ u. u) t ts)
 unfolding inserted counted

@@ -74,13 +74,14 @@ least-held a h l =
 pub record DropsDown (n : ℕ) (a : Archive) : Type 0 where
   pub drops : Drops a (notes n a) (after-drops n a)
   pub sound : Sound (after-drops n a)
+  pub counted : IsCounted (after-drops n a)
   pub left : length (a .rows) ≡ n + length (after-drops n a .rows)
   pub sum : a .sum ≡ after-drops n a .sum + noted-sum (notes n a)
   pub size : length (notes n a) ≡ 2 * n
 
 pub drops-down : (n : ℕ) (a : Archive) → Sound a → IsCounted a → n ≤ length (a .rows) → DropsDown n a
 unfolding after-drops notes note noted-sum dropped
-drops-down zero a s h l = record { drops = none; sound = s; left = omega arith; sum = omega arith; size = refl }
+drops-down zero a s h l = record { drops = none; sound = s; counted = h; left = omega arith; sum = omega arith; size = refl }
 drops-down (suc n) a s h l =
     let one = drop-keeps a s h (omega arith) in
     let fewer : length (a .rows) ≡ suc (length (dropped a .rows)) = one .count in
@@ -92,6 +93,7 @@ drops-down (suc n) a s h l =
     record {
       drops = Drops.drop (least-row (a .rows)) (least-held a h (omega arith)) (later .drops);
       sound = later .sound;
+      counted = later .counted;
       left = omega arith;
       sum = omega arith;
       size = omega arith;

@@ -12,3 +12,4 @@ pub mod Known
 pub mod Answers
 pub mod Lent
 pub mod Shares
+pub mod Earlier

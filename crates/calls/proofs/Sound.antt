@@ -3,17 +3,19 @@ use Prim.Native.Nat.{ℕ, suc, _+_, _≤_}
 use mathlib.Core.Path.{_≡_, refl}
 use mathlib.Core.Bool.{true, false}
 use mathlib.Core.Logic.{_⊎_, inl, inr}
-use mathlib.Core.List.{List, map, List·Memᴰ, List·Memᴰ·cases-cons, Memᴰ·of-map}
+use mathlib.Core.List.{List, map, List·Memᴰ, List·Memᴰ·cases-cons, Memᴰ·of-map, []}
 use native.Mathlib.Omega.{arith}
 use lib.ListN.{length, length-map}
 use borrow.Author.Tests.{eqb-false, ltb-false, not-false, le-leb}
 use Rattle.hypervolume.specs.Cells.{box}
+use Rattle.hypervolume.specs.Front.{front}
 use Rattle.slices.proofs.Choices.{both-true, both-intro, either-false}
 use Rattle.hypervolume.proofs.Counting.{gain-le-box}
-use Rattle.words.specs.Archive.{Trial, Row, Shape, Archive, point, reference}
-use Rattle.words.specs.Format.{number-allowed, coordinates-allowed, row-allowed, rows-allowed, held}
+use Rattle.hypervolume.proofs.Front.{front-laws}
+use Rattle.words.specs.Archive.{Trial, Row, Shape, Archive, point, reference, trials, points}
+use Rattle.words.specs.Format.{shape-allowed, number-allowed, coordinates-allowed, row-allowed, rows-allowed, ordered, held, distinct}
 use Rattle.words.proofs.Passed.{guard-none, Sound, RowBounds, row-bounds, bounds-row}
-use Rattle.calls.specs.Calls.{held-trials, held-points, reference-of, box-of, insert-gain, joint-with, lowered, inserted, falls-below, insert-overruns, insert-rows, admission-rows, row-of, others, without, raised, removed, exceeds, remove-overruns, remove-rows}
+use Rattle.calls.specs.Calls.{held-trials, held-points, reference-of, box-of, empty, place, insert-gain, joint-with, lowered, inserted, falls-below, insert-overruns, insert-rows, admission-rows, row-of, others, without, raised, removed, exceeds, remove-overruns, remove-rows}
 use Rattle.calls.proofs.Members.{tested-each, each-tested, place-length, place-member, others-member, split}
 use Rattle.calls.proofs.Counted.{inserted-trials, removed-trials}
 use Rattle.calls.proofs.Order.{ordered-ascending, ascending-ordered, ascending-place, distinct-place, distinct-more, others-ascending, others-distinct}
@@ -95,6 +97,26 @@ new-bounds : (s : Shape) (t : Trial) (k : ℕ) → number-allowed (t .number) �
 unfolding row-allowed
 new-bounds s t k n c l = row-bounds s _ (both-intro _ _ n (both-intro _ _ c (le-leb k (box (reference s)) l)))
 
+-- A front counted anew is at most the count.
+pub front-few : (rows : List Row) → front (points (trials rows)) ≤ length rows
+unfolding points trials
+front-few rows =
+    omega (arith, front-laws .at-most (points (trials rows)), length-map (trials rows) point, length-map rows (λ r. r .trial))
+
+-- An archive just started.
+pub empty-sound : (s : Shape) → shape-allowed s ≡ true → Sound (empty s)
+unfolding empty rows-allowed ordered distinct trials
+empty-sound s h =
+    record {
+      shaped = h;
+      within-box = omega arith;
+      front-within = front-few [];
+      held-within = omega arith;
+      rows-fit = refl;
+      in-order = refl;
+      apart = refl;
+    }
+
 pub inserted-sound : (a : Archive) (t : Trial) → Sound a → InsertPassed a t → Sound (inserted a t)
 unfolding inserted insert-overruns insert-gain lowered
 inserted-sound a t s p =
@@ -104,6 +126,7 @@ inserted-sound a t s p =
     record {
       shaped = s .shaped;
       within-box = ltb-false _ _ (parts .0);
+      front-within = front-few (place (λ r. r .trial) new (map (lowered a t) (a .rows)));
       held-within = rw (place-length (λ r. r .trial) new (map (lowered a t) (a .rows)), length-map (a .rows) (lowered a t)) (omega arith);
       rows-fit = each-rows (a .shape) _ (λ r m. each r (List·Memᴰ·cases-cons (place-member (λ q. q .trial) r new _ m)));
       in-order =
@@ -135,6 +158,7 @@ removed-sound a n s p =
     record {
       shaped = s .shaped;
       within-box = omega arith;
+      front-within = front-few (map (raised (without a n) t) (others n (a .rows)));
       held-within = rw (length-map (others n (a .rows)) (raised (without a n) t)) (omega arith);
       rows-fit = each-rows (a .shape) _ (λ r m. moved (parts .1) r (Memᴰ·of-map _ (others n (a .rows)) m));
       in-order =

@@ -9,6 +9,7 @@ use Rattle.slices.specs.Choices.{both, pick, either}
 use Rattle.rounding.specs.Nearest.{nearest}
 use Rattle.hypervolume.specs.Cells.{box}
 use Rattle.hypervolume.specs.Counts.{total, contribution, joint, gain}
+use Rattle.hypervolume.specs.Front.{front}
 use Rattle.words.specs.Archive.{Trial, Row, Shape, Archive, point, reference, trials, points, before}
 use Rattle.words.specs.Format.{guard, number-allowed, coordinates-allowed, held}
 
@@ -25,9 +26,14 @@ reference-of a = reference (a .shape)
 abbrev pub box-of : Archive → ℕ
 box-of a = box (reference-of a)
 
+-- Word 6 "holds how many trials are on the front", "counted anew by every start, insertion, removal and reduction" (document 02,
+-- W-209): from the trials that are then held, and never from the word as it was.
+abbrev pub renewed : Shape → ℕ → List Row → Archive
+renewed s total rows = record { shape = s; sum = total; front = front (points (trials rows)); rows = rows }
+
 -- Start: "writes an empty archive".
 unfoldable pub empty : Shape → Archive
-empty s = record { shape = s; sum = 0; rows = [] }
+empty s = renewed s 0 []
 
 -- The record in its place in the archive's order.
 unfoldable pub place : {A : Type 0} → (A → Trial) → A → List A → List A
@@ -48,12 +54,8 @@ lowered a t r = record { trial = r .trial; kept = r .kept - joint-with a t r }
 
 unfoldable pub inserted : Archive → Trial → Archive
 inserted a t =
-    record {
-      shape = a .shape;
-      sum = a .sum + insert-gain a t;
-      rows =
-          place (λ r. r .trial) (record { trial = t; kept = insert-gain a t }) (map (lowered a t) (a .rows));
-    }
+    renewed (a .shape) (a .sum + insert-gain a t)
+    (place (λ r. r .trial) (record { trial = t; kept = insert-gain a t }) (map (lowered a t) (a .rows)))
 
 -- Row 13, insert: "a new total or contribution would fall below 0 or exceed the box". A total only rises here and
 -- a contribution only falls; the new record's contribution is a count, so it is at most the box.
@@ -84,9 +86,9 @@ unfoldable pub others : ℕ → List Row → List Row
 others n [] = []
 others n (r ∷ rows) = pick (eqb (r .trial .number) n) (others n rows) (r ∷ others n rows)
 
--- The archive without the records of this number; total and contributions still as they were.
+-- The archive without the records of this number; the rest still as it was.
 unfoldable pub without : Archive → ℕ → Archive
-without a n = record { shape = a .shape; sum = a .sum; rows = others n (a .rows) }
+without a n = record { shape = a .shape; sum = a .sum; front = a .front; rows = others n (a .rows) }
 
 -- Remove. The counted contribution of the trial leaves the total; every other record's contribution rises by the
 -- joint count with it, just before the removal.
@@ -98,11 +100,8 @@ raised a t r = record { trial = r .trial; kept = r .kept + joint-with a t r }
 
 unfoldable pub removed : Archive → ℕ → Archive
 removed a n =
-    record {
-      shape = a .shape;
-      sum = a .sum - removal-loss a n;
-      rows = map (raised (without a n) (row-of n (a .rows) .trial)) (others n (a .rows));
-    }
+    renewed (a .shape) (a .sum - removal-loss a n)
+    (map (raised (without a n) (row-of n (a .rows) .trial)) (others n (a .rows)))
 
 -- Row 13, remove: the total only falls and a contribution only rises.
 unfoldable pub exceeds : Archive → Trial → List Row → Bool
@@ -154,14 +153,17 @@ gain-rows t = guard (not (coordinates-allowed t)) 6 0
 unfoldable pub share-of : Archive → ℕ
 share-of a = nearest (a .sum * 1000000) (box-of a)
 
--- "The audit answers yes exactly when the total and all contributions equal their counts."
+-- "The audit answers yes exactly when the total and all contributions equal their counts"; "the audit includes" the front
+-- (document 02, W-209).
 unfoldable pub rows-counted : Archive → List Row → Bool
 rows-counted a [] = true
 rows-counted a (r ∷ rows) =
     both (eqb (r .kept) (contribution (reference-of a) (held-points a) (point (r .trial)))) (rows-counted a rows)
 
 unfoldable pub audited : Archive → Bool
-audited a = both (eqb (a .sum) (total (reference-of a) (held-points a))) (rows-counted a (a .rows))
+audited a =
+    both (eqb (a .sum) (total (reference-of a) (held-points a)))
+    (both (eqb (a .front) (front (held-points a))) (rows-counted a (a .rows)))
 
 -- Reduce: "drops the least contributor by that rule until k trials are held". For each drop "the number and its
 -- contribution at that moment".

@@ -5,3 +5,4 @@ pub mod Lent
 pub mod Shares
 pub mod Counted
 pub mod Drops
+pub mod Earlier

@@ -5,7 +5,6 @@ use mathlib.Core.Bool.{true}
 use mathlib.Core.List.{List, _∷_, _++_, map, []}
 use mathlib.Core.Option.{Option, none, some}
 use native.Mathlib.Numerals.{add-one}
-use native.Mathlib.Omega.{arith}
 use lib.ListN.{length, drop, length-map}
 use borrow.Author.Tests.{not-false}
 use Rattle.text.specs.Lines.{Numbers}
@@ -19,7 +18,7 @@ use Rattle.calls.specs.Counted.{IsCounted}
 use Rattle.calls.specs.Lent.{leaves, start-rows, start, insert}
 use Rattle.calls.proofs.Members.{place-length}
 use Rattle.calls.proofs.Counted.{insert-fits, inserted-counted, empty-counted, counted-is-counted}
-use Rattle.calls.proofs.Sound.{insert-passed, inserted-sound}
+use Rattle.calls.proofs.Sound.{insert-passed, empty-sound, inserted-sound}
 use Rattle.card.specs.Card.{shape-on, trial-on, malformed, by-form, first-line, further-line, refused, accepted, judged, further, from-first, lines, load}
 use Rattle.card.specs.Verdict.{refusal, in-turn, judge-further, judge, answer-of, words-of, carried-out}
 
@@ -87,8 +86,7 @@ pub empty-fair : (s : Shape) → shape-allowed s ≡ true → Fair (empty s)
 unfolding empty trials rows-allowed ordered distinct
 empty-fair s allowed =
     record {
-      sound =
-          record { shaped = allowed; within-box = omega arith; held-within = omega arith; rows-fit = refl; in-order = refl; apart = refl };
+      sound = empty-sound s allowed;
       counted = rw (empty-counted s) (counted-is-counted s []);
     }
 

@@ -24,7 +24,7 @@ fn load(words: &mut [u64], n: usize, text: &[u8]) -> card::Loaded
     card::load(&mut words[0..n], text)
 }
 
-// Where the five words of a line stand that is due: words 1 to 5, then the records.
+// Where the first five words of a line stand that is due: words 1 to 5, then the records.
 fn place_of(line: usize) -> usize {
     if line == 0 { 1 } else { 5 * (line % 1024) + 3 }
 }
@@ -54,13 +54,19 @@ fn same_words(words: &[u64], due: &[u8], lines: usize) -> bool {
     true
 }
 
+// The front that is due: the sixth number of the first line.
+fn front_due(due: &[u8]) -> u64 {
+    let row = testing::numbers(due, 0);
+    row[5]
+}
+
 // Whether the words are those of an archive with this count of trials: the lines due, or the largest card.
 fn holds(words: &[u64], due: &[u8], count: u64) -> bool {
     if count == 512 {
         return scattered(words);
     }
     let n = (count % 512) as usize;
-    at(words, 6) == 0
+    at(words, 6) == front_due(due)
         && at(words, 7) == 0
         && same_words(words, due, n + 1)
         && testing::filled(words, 5 * n + 8, 0)

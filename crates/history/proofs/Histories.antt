@@ -1,24 +1,24 @@
 -- Term 3 of document 00, its claim about whole lists of calls: by induction on the list, through one invariant (Steps:
 -- the words hold the fresh archive of the book, and behind it what lay there at the start).
-use Prim.Native.Nat.{ℕ, _+_, _≤_, zero-le}
+use Prim.Native.Nat.{ℕ, _+_, _≤_}
 use mathlib.Core.Path.{_≡_, refl, sym, ap, _∙_}
-use mathlib.Core.Bool.{true}
 use mathlib.Core.List.{List, _∷_, []}
 use native.Mathlib.Omega.{arith}
 use lib.ListN.{length, take, drop, length-drop}
 use lib.Seq.{take-at, drop-at}
 use borrow.Author.Tests.{ltb-false, not-false}
-use Rattle.words.specs.Archive.{Shape, trials}
+use Rattle.words.specs.Archive.{Shape}
 use Rattle.words.specs.Layout.{extent}
-use Rattle.words.specs.Format.{shape-allowed, rows-allowed, ordered, distinct}
-use Rattle.words.proofs.Passed.{guard-none, Sound}
+use Rattle.words.proofs.Passed.{guard-none}
 use Rattle.calls.specs.Calls.{empty}
 use Rattle.calls.specs.Lent.{leaves, start-rows, start}
 use Rattle.calls.proofs.Counted.{empty-counted}
+use Rattle.calls.proofs.Sound.{empty-sound}
 use Rattle.calls.proofs.Lent.{leaves-refusal, leaves-unrefused}
 use Rattle.history.specs.Book.{Book, book-turn, opened}
 use Rattle.history.specs.History.{Call, on-words, words-after, run-words, run-answers, request, run-book, book-answers, sorted, shape-of-book, fresh-archive, fresh, Agrees}
 use Rattle.history.specs.Terms.{opened-by}
+use Rattle.history.proofs.Thinning.{fresh-is}
 use Rattle.history.proofs.Steps.{Holds, Agree, fresh-length, holds-length, step}
 
 -- The length of the words does not change.
@@ -49,13 +49,8 @@ runs-alike (c ∷ calls) s rest w b h =
 
 -- A start that is done.
 fresh-start : (s : Shape) → fresh-archive (opened (s .capacity) (s .rx) (s .ry) (s .rz)) ≡ empty s
-unfolding fresh-archive shape-of-book opened sorted
-fresh-start s = sym (empty-counted s)
-
-empty-sound : (s : Shape) → shape-allowed s ≡ true → Sound (empty s)
-unfolding empty rows-allowed ordered distinct trials
-empty-sound s h =
-    record { shaped = h; within-box = zero-le; held-within = zero-le; rows-fit = refl; in-order = refl; apart = refl }
+unfolding shape-of-book opened sorted
+fresh-start s = fresh-is (opened (s .capacity) (s .rx) (s .ry) (s .rz)) ∙ sym (empty-counted s)
 
 -- What a start or a loading that is done has left: words that hold the fresh archive of the book that it opened.
 pub record Begun (before begun : List ℕ) (s : Shape) (b : Book) : Type 0 where

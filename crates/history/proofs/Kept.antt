@@ -5,6 +5,7 @@ use mathlib.Core.Bool.{true}
 use mathlib.Core.List.{List, List·Memᴰ, Memᴰ·map}
 use Rattle.hypervolume.specs.Cells.{holds}
 use Rattle.hypervolume.specs.Counts.{total, contribution, joint, gain}
+use Rattle.hypervolume.specs.Front.{front}
 use Rattle.hypervolume.proofs.Counting.{SameCover, total-same, joint-same, gain-same}
 use Rattle.words.specs.Archive.{Trial, Shape, point, reference, points, trials}
 use Rattle.words.specs.Layout.{read}
@@ -22,6 +23,7 @@ use Rattle.history.specs.Book.{Book, counted-contribution}
 use Rattle.history.specs.History.{sorted, shape-of-book, fresh-archive, fresh}
 use Rattle.history.specs.Kept.{HoldsJust, KeepsCounts}
 use Rattle.history.proofs.Sorting.{sorted-cover, sorted-member, member-sorted}
+use Rattle.history.proofs.Fronts.{sorted-front}
 use Rattle.history.proofs.Thinning.{book-row, fresh-rows, fresh-count, fresh-counted, fresh-trials}
 use Rattle.history.proofs.Steps.{Holds}
 use Rattle.history.proofs.Moves.{joint-answers}
@@ -73,6 +75,11 @@ module _ (s : Shape) (rest w : List ℕ) (b : Book) (h : Holds s rest b w) where
       let kept : IsCounted (read w) = rw reads (fresh-counted b) in
       kept .sum ∙ total-same _ _ _ same-points ∙ ap (λ q. total (reference q) (points (b .trials))) shape-is
 
+  front-is : read w .front ≡ front (points (b .trials))
+  front-is =
+      let kept : IsCounted (read w) = rw reads (fresh-counted b) in
+      kept .front ∙ ap (λ ts. front (points ts)) trials-are ∙ sorted-front (b .trials)
+
   contribution-is : (t : Trial) → List·Memᴰ t (b .trials)
       → row-of (t .number) (read w .rows) .kept ≡ contribution (reference s) (points (b .trials)) (point t)
   unfolding book-row counted-contribution shape-of-book points
@@ -99,6 +106,7 @@ module _ (s : Shape) (rest w : List ℕ) (b : Book) (h : Holds s rest b w) where
   keeps-counts =
       record {
         total = total-is;
+        front = front-is;
         contribution = contribution-is;
         equal-trials = λ t u mt mu d e. contribution-is t mt ∙ equal-contribute-0 (reference s) t u (b .trials) mt mu d e;
         joint = λ t u mt mu d.

@@ -7,6 +7,7 @@ use lib.ListN.{replicate}
 use Rattle.slices.specs.Choices.{both, pick, either}
 use Rattle.hypervolume.specs.Cells.{holds, dominates, sum, cells, count, box, edges}
 use Rattle.hypervolume.specs.Counts.{cover, total, contribution, joint, gain}
+use Rattle.hypervolume.specs.Front.{smaller-somewhere, beats, beaten, unbeaten, front}
 use Rattle.hypervolume.proofs.Counting.{gain-first}
 use Rattle.rounding.specs.Nearest.{even-of, rounded, nearest}
 use Rattle.words.specs.Archive.{Trial, Shape, Archive, trials, points, ascends, before}
@@ -25,7 +26,7 @@ unfolding AllMet Met small usual done answers asked step-answer step-words Lent.
     notes reduce-rows guard within each shape-allowed number-allowed coordinates-allowed header-allowed row-allowed rows-allowed
     ordered held distinct sound-rows zeros unused records-allowed archive-rows header record-words records extent layout read-row
     read-rows read-shape read behind trials points pick either ascends before cover total contribution joint gain both
-    holds dominates sum cells count box
+    front unbeaten beaten beats smaller-somewhere holds dominates sum cells count box
 small-met = (refl, (refl, (refl, (refl, (refl, (refl, (refl, (refl, (refl, (refl, tt))))))))))
 
 -- The largest reference: the archive just started, the one trial, and the archive that holds it.
@@ -36,7 +37,7 @@ origin : Trial
 origin = record { number = 1; x = 0; y = 0; z = 0 }
 
 alone : Archive
-alone = record { shape = far; sum = 1152921504606846976; rows = record { trial = origin; kept = 1152921504606846976 } ∷ [] }
+alone = record { shape = far; sum = 1152921504606846976; front = 1; rows = record { trial = origin; kept = 1152921504606846976 } ∷ [] }
 
 fresh-words : List ℕ
 fresh-words = Lent.start (replicate (extent 8) 0) far .words
@@ -53,7 +54,7 @@ all-cells = gain-first (1048576 ∷ 1048576 ∷ 1048576 ∷ []) (0 ∷ 0 ∷ 0 �
 
 takes-it : inserted (empty far) origin ≡ alone
 unfolding inserted place alone
-takes-it = rw all-cells (unfold empty in refl)
+takes-it = rw all-cells (unfold empty points trials origin front unbeaten beaten beats smaller-somewhere dominates both either holds in refl)
 
 no-overrun : insert-overruns (empty far) origin ≡ false
 unfolding insert-overruns falls-below either box
@@ -66,7 +67,7 @@ no-row = rw no-overrun (unfold guard within each number-allowed coordinates-allo
 well-formed : archive-rows fresh-words 0 ≡ 0
 unfolding fresh-words read Lent.start Lent.start-rows Lent.leaves guard within shape-allowed each extent both layout
     header records empty read-shape read-rows far archive-rows header-allowed records-allowed sound-rows rows-allowed ordered
-    distinct zeros unused trials box
+    distinct zeros unused trials points front unbeaten box
 well-formed = refl
 
 first : Lent.insert fresh-words origin ≡ record { refusal = 0; value = 0; words = layout alone ++ []; log = [] }

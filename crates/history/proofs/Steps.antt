@@ -28,7 +28,7 @@ use Rattle.calls.specs.Lent.{Outcome, leaves}
 use Rattle.history.specs.Book.{Book, Turn, refuse-if, row-1, has, entered, struck, thinned, book-notes, book-insert, book-remove, book-reduce, book-turn}
 use Rattle.history.specs.History.{Call, on-words, lent-of, answered, request, log-of, expected, sorted, shape-of-book, fresh-archive, fresh}
 use Rattle.history.proofs.Sorting.{has-held, sorted-held}
-use Rattle.history.proofs.Thinning.{fresh-count, fresh-counted, fresh-trials, fresh-remove, struck-shape, thins}
+use Rattle.history.proofs.Thinning.{fresh-is, fresh-count, fresh-counted, fresh-trials, fresh-remove, struck-shape, thins}
 
 -- The words hold the fresh archive of the book, of this shape, and behind it the rest.
 pub record Holds (s : Shape) (rest : List ℕ) (b : Book) (w : List ℕ) : Type 0 where
@@ -104,8 +104,8 @@ row-8 b = ap (λ n. eqb n (b .capacity)) (fresh-count b)
 
 -- Entering a trial in the book is inserting it into the fresh archive.
 fresh-insert : (b : Book) (t : Trial) → inserted (fresh-archive b) t ≡ fresh-archive (entered t b)
-unfolding fresh-archive entered shape-of-book sorted
-fresh-insert b t = counted-insert (shape-of-book b) (sorted (b .trials)) t
+unfolding entered shape-of-book sorted
+fresh-insert b t = ap (λ a. inserted a t) (fresh-is b) ∙ counted-insert (shape-of-book b) (sorted (b .trials)) t ∙ sym (fresh-is (entered t b))
 
 module _ (s : Shape) (rest w : List ℕ) (b : Book) (h : Holds s rest b w) where
   -- What the words are that hold the fresh archive, and their parts.

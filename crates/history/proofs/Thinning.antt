@@ -21,6 +21,7 @@ use Rattle.calls.proofs.Ranking.{less, ties, leads-self, Leader, LeastOf, least
 use Rattle.calls.proofs.Drops.{leaving, drop-keeps}
 use Rattle.history.specs.Book.{Book, counted-contribution, rather, least-of, least-trial, struck, struck-out, book-note, thinned, book-notes}
 use Rattle.history.specs.History.{sorted, shape-of-book, fresh-archive}
+use Rattle.history.proofs.Fronts.{book-front-is}
 use Rattle.history.proofs.Sorting.{sorted-length, sorted-distinct, sorted-cover, sorted-member, member-sorted, struck-trials, sorted-struck}
 
 -- A trial of the book as a record, with its contribution as the book counts it.
@@ -66,9 +67,15 @@ fresh-rows b =
     map-on _ (book-row b) (sorted (b .trials))
     (λ t m. ap (λ k. record { trial = t; kept = k }) (contribution-same _ _ _ (point t) (sorted-cover (b .trials))))
 
+-- The front that the book counts is that of the counted archive.
+pub fresh-is : (b : Book) → fresh-archive b ≡ counted (shape-of-book b) (sorted (b .trials))
+unfolding fresh-archive counted
+fresh-is b =
+    ap (λ n. record { shape = shape-of-book b; sum = counted (shape-of-book b) (sorted (b .trials)) .sum; front = n; rows = counted (shape-of-book b) (sorted (b .trials)) .rows })
+    (book-front-is b)
+
 pub fresh-counted : (b : Book) → IsCounted (fresh-archive b)
-unfolding fresh-archive
-fresh-counted b = counted-is-counted (shape-of-book b) (sorted (b .trials))
+fresh-counted b = rw (fresh-is b) (counted-is-counted (shape-of-book b) (sorted (b .trials)))
 
 pub fresh-count : (b : Book) → length (fresh-archive b .rows) ≡ length (b .trials)
 fresh-count b = rw (fresh-rows b, length-map (sorted (b .trials)) (book-row b)) (sorted-length (b .trials))
@@ -98,8 +105,9 @@ fresh-remove b n s h =
     let left : held-trials (without (fresh-archive b) n) ≡ sorted (struck-out n (b .trials)) =
     struck-trials n (fresh-archive b .rows) ∙ ap (struck-out n) (fresh-trials b)
     ∙ sym (sorted-struck n (b .trials) (sym (sorted-distinct (b .trials)) ∙ apart)) in
-    counted-remove (shape-of-book b) (sorted (b .trials)) n (rw (← fresh-trials b) h) apart
+    ap (λ a. removed a n) (fresh-is b) ∙ counted-remove (shape-of-book b) (sorted (b .trials)) n (rw (← fresh-trials b) h) apart
     ∙ ap (counted (shape-of-book b)) left
+    ∙ sym (fresh-is (struck n b))
 
 -- One drop, on the archive and in the book.
 pub record DropsAlike (b : Book) : Type 0 where

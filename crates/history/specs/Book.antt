@@ -5,11 +5,11 @@
 use Prim.Native.Nat.{ℕ, zero, suc, _+_, _-_, _*_}
 use mathlib.Core.Bool.{Bool, true, false, not}
 use mathlib.Core.List.{List, _∷_, _++_, map, []}
-use lib.Dec.{ltb, eqb}
+use lib.Dec.{leb, ltb, eqb}
 use lib.ListN.{length}
 use Rattle.hypervolume.specs.Counts.{contribution}
 use Rattle.words.specs.Archive.{Trial, point}
-use Rattle.slices.specs.Choices.{pick, either}
+use Rattle.slices.specs.Choices.{both, pick, either}
 
 -- "It keeps a reference, a capacity and the surviving trials, a number and a point each." The trials stand as they
 -- were entered, the last in front.
@@ -142,6 +142,25 @@ unfoldable pub book-turn : Request → Book → Turn
 book-turn (insert slice t) b = book-insert slice t b
 book-turn (remove slice n) b = book-remove slice n b
 book-turn (reduce slice k log) b = book-reduce slice k log b
+
+-- "On the front: those for which no other trial is at most equal on all axes and smaller on at least one" (document 02, W-209).
+-- Whether t is so beside u; whether no trial of a list is so beside t; how many trials of a list no trial of all is so beside.
+unfoldable pub better : Trial → Trial → Bool
+better t u =
+    both (leb (t .x) (u .x))
+    (both (leb (t .y) (u .y))
+    (both (leb (t .z) (u .z)) (either (ltb (t .x) (u .x)) (either (ltb (t .y) (u .y)) (ltb (t .z) (u .z))))))
+
+unfoldable pub none-better : List Trial → Trial → Bool
+none-better [] t = true
+none-better (u ∷ ts) t = both (not (better u t)) (none-better ts t)
+
+unfoldable pub on-front : List Trial → List Trial → ℕ
+on-front all [] = 0
+on-front all (t ∷ ts) = pick (none-better all t) (suc (on-front all ts)) (on-front all ts)
+
+unfoldable pub book-front : Book → ℕ
+book-front b = on-front (b .trials) (b .trials)
 
 -- "After a start that is done it has that start's reference and capacity and no trial."
 unfoldable pub opened : (capacity rx ry rz : ℕ) → Book

@@ -10,7 +10,7 @@ use Rattle.calls.specs.Calls.{place}
 use Rattle.calls.specs.Counted.{counted}
 use Rattle.calls.specs.Lent
 use Rattle.calls.specs.Lent.{Outcome}
-use Rattle.history.specs.Book.{Book, Request, Reply, book-turn}
+use Rattle.history.specs.Book.{Book, Request, Reply, book-turn, book-front}
 
 -- A call of the list: "each call is lent the words that the last one left, or only a first part of them" (lent, how
 -- many), with any arguments, and for a reduce any log words.
@@ -88,9 +88,16 @@ unfoldable pub shape-of-book : Book → Shape
 shape-of-book b = record { capacity = b .capacity; rx = b .rx; ry = b .ry; rz = b .rz }
 
 -- "A fresh archive holding the surviving trials has the words set out above, with the book's reference, capacity
--- and trials, and with total and contributions counted on those trials alone."
+-- and trials, and with total and contributions counted on those trials alone." It "must agree in that word", the front, "as
+-- well" (document 02, W-209); the book counts it for itself.
 unfoldable pub fresh-archive : Book → Archive
-fresh-archive b = counted (shape-of-book b) (sorted (b .trials))
+fresh-archive b =
+    record {
+      shape = shape-of-book b;
+      sum = counted (shape-of-book b) (sorted (b .trials)) .sum;
+      front = book-front b;
+      rows = counted (shape-of-book b) (sorted (b .trials)) .rows;
+    }
 
 unfoldable pub fresh : Book → List ℕ
 fresh b = layout (fresh-archive b)

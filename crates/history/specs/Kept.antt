@@ -6,6 +6,7 @@ use mathlib.Core.Bool.{true}
 use mathlib.Core.List.{List, List·Memᴰ}
 use lib.ListN.{length}
 use Rattle.hypervolume.specs.Counts
+use Rattle.hypervolume.specs.Front
 use Rattle.words.specs.Archive.{Trial, Row, Shape, point, reference, points}
 use Rattle.words.specs.Layout.{read}
 use Rattle.words.specs.Format.{coordinates-allowed, archive-rows}
@@ -21,10 +22,12 @@ pub record HoldsJust (w : List ℕ) (s : Shape) (trials : List Trial) : Type 0 w
   pub no-other : (r : Row) → List·Memᴰ r (read w .rows) → List·Memᴰ (r .trial) trials
 
 -- "The kept total is the number of cells that some trial dominates; a contribution is the number that this trial
--- dominates and no other does. Joint contributions and the gain of a point not held are such counts too." And the
--- audit says yes. "Of two equal trials each contributes 0": t is any one of the two.
+-- dominates and no other does. Joint contributions and the gain of a point not held are such counts too." The kept front is
+-- the number of trials on it (document 02, W-209). And the audit says yes. "Of two equal trials each contributes 0": t is any
+-- one of the two.
 pub record KeepsCounts (w : List ℕ) (s : Shape) (trials : List Trial) : Type 0 where
   pub total : read w .sum ≡ Counts.total (reference s) (points trials)
+  pub front : read w .front ≡ Front.front (points trials)
   pub contribution : (t : Trial) → List·Memᴰ t trials
       → row-of (t .number) (read w .rows) .kept ≡ Counts.contribution (reference s) (points trials) (point t)
   pub equal-trials : (t u : Trial) → List·Memᴰ t trials → List·Memᴰ u trials → (t .number ≡ u .number → ⊥) → point t ≡ point u

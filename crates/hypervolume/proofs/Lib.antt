@@ -6,5 +6,6 @@ pub mod Counting
 pub mod Beyond
 pub mod Skips
 pub mod Axes
+pub mod Front
 pub mod Points
 pub mod Examples

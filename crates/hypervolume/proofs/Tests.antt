@@ -21,6 +21,14 @@ compared a b = go (leb a b) refl
     go true e = below (leb-true a b e)
     go false e = above (leb-false a b e)
 
+-- The two cases of two numbers.
+pub by-order : {P : Type 0} (a b : ℕ) → (a ≤ b → P) → (b < a → P) → P
+by-order {P} a b low high = go (leb a b) (compared a b)
+  where
+    go : (t : Bool) → Compared a b t → P
+    go t (below h) = low h
+    go t (above h) = high h
+
 -- An equality test tells one of two things.
 pub data Equated (a b : ℕ) : Bool → Type 0 where
   same : a ≡ b → Equated a b true

@@ -3,5 +3,6 @@
 pub mod Cells
 pub mod Counts
 pub mod Beyond
+pub mod Front
 pub mod Axes
 pub mod Sorted

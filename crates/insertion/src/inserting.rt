@@ -1,4 +1,5 @@
-// Insert: rows 5 to 8 and 13, then the record in its place and every contribution moved by the counted amount.
+// Insert: rows 5 to 8 and 13, then the record in its place, every contribution moved by the counted amount, and the front
+// counted anew.
 use ask::count_joints;
 use hypervolume::Point;
 use records::Moved;
@@ -6,6 +7,7 @@ use records::enough;
 use records::enter_at;
 use records::lower_at;
 use records::rank;
+use records::renew;
 use words::Record;
 use words::Row;
 use words::box_of;
@@ -25,6 +27,7 @@ ghost use Rattle.words.specs.Format.{guard, archive-rows};
 ghost use Rattle.words.specs.Places.{as-row, as-trial};
 ghost use Rattle.calls.specs.Calls.{admission-rows, insert-overruns, inserted};
 ghost use Rattle.calls.specs.Lent.{insert, trial-of};
+ghost use Rattle.records.specs.Fronts.{unfronted};
 ghost use Rattle.insertion.specs.Inserting.{InsertAmounts, InsertReady};
 
 // Rows 5 to 8.
@@ -72,10 +75,10 @@ fn judge(w: &[u64], p: Point, places: &mut [u16], counts: &mut [u64]) -> Moved
     }
 }
 
-// Writes the others' contributions, the new record and the header.
+// Writes the others' contributions, the new record and the header, with no front yet.
 fn store(w: &mut [u64], number: u64, p: Point, gain: u64, places: &[u16], counts: &[u64])
     requires { ⌜ InsertReady (now w) (as-trial number (p .at)) gain (now places) (now counts) ⌝ }
-    ensures { λ _. ⌜ now (w .exit) ≡ layout (inserted (read (now (w .entry))) (as-trial number (p .at))) ++ behind (now (w .entry)) ⌝ }
+    ensures { λ _. ⌜ now (w .exit) ≡ layout (unfronted (inserted (read (now (w .entry))) (as-trial number (p .at)))) ++ behind (now (w .entry)) ⌝ }
 {
     let n = w[0] as usize;
     let new = Record {
@@ -89,6 +92,7 @@ fn store(w: &mut [u64], number: u64, p: Point, gain: u64, places: &[u16], counts
     enter_at(w, n, k, new);
     w[0] = (n + 1) as u64;
     w[5] = total;
+    w[6] = 0;
 }
 
 // Row 13, or the insertion.
@@ -105,6 +109,7 @@ fn put_in(w: &mut [u64], number: u64, p: Point) -> u64
     }
     let m = moved.places;
     store(w, number, p, moved.amount, &places[..m], &counts[..m]);
+    renew(w);
     0
 }
 

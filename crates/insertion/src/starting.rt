@@ -35,6 +35,6 @@ pub fn start(w: &mut [u64], rx: u64, ry: u64, rz: u64, capacity: u64) -> u64
         return turned;
     }
     clear(w, 0, 8 + 5 * capacity as usize);
-    put_header(w, 0, s, 0);
+    put_header(w, 0, s, 0, 0);
     0
 }

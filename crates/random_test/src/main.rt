@@ -55,6 +55,33 @@ fn least(book: &[u32], reference: Point) -> usize {
     found
 }
 
+// Whether p is at most equal to q on all axes and smaller on at least one.
+fn beats(p: Point, q: Point) -> bool {
+    let a = p.at;
+    let b = q.at;
+    let at_most = a[0] <= b[0] && a[1] <= b[1] && a[2] <= b[2];
+    at_most && (a[0] < b[0] || a[1] < b[1] || a[2] < b[2])
+}
+
+// Whether some trial held beats this one.
+fn beaten(book: &[u32], n: usize) -> bool {
+    for m in 1..9usize {
+        if held(book, m) && beats(point_at(book, m), point_at(book, n)) {
+            return true;
+        }
+    }
+    false
+}
+
+// How many trials are on the front.
+fn front(book: &[u32]) -> u64 {
+    let mut on_it: u64 = 0;
+    for n in 1..9usize {
+        on_it = on_it % 100 + one(held(book, n) && !beaten(book, n));
+    }
+    on_it
+}
+
 // The kept contribution of a trial, among the first 8 records.
 fn kept(w: &[u64], number: u64) -> u64 {
     for k in 0..8usize {
@@ -95,7 +122,7 @@ fn joint_agrees(book: &[u32], reference: Point, w: &[u64], n: usize, m: usize) -
     one(says(ask::joint(w, n as u64, m as u64), refusal, due))
 }
 
-// Whether the total, the contributions and joint contributions are the counts. The trials go in pairs n, n + step.
+// Whether the total, the front, the contributions and joint contributions are the counts. The trials go in pairs n, n + step.
 fn agrees(book: &[u32], reference: Point, w: &[u64], step: usize) -> bool {
     let mut right: u64 = 0;
     for n in 1..9usize {
@@ -103,7 +130,7 @@ fn agrees(book: &[u32], reference: Point, w: &[u64], step: usize) -> bool {
         right = right % 100 + own + joint_agrees(book, reference, w, n, 1 + (n + step % 8) % 8);
     }
     let total = testing::cells(book, reference, Point { at: [0, 0, 0] }, 1, 9);
-    right == 16 && at(w, 5) == total
+    right == 16 && at(w, 5) == total && at(w, 6) == front(book)
 }
 
 // A coordinate: a third of them beyond the reference, by one, by two or at the limit; the others up to it, often half.

@@ -11,9 +11,13 @@ use Rattle.slices.proofs.Put.{drop-put}
 use Rattle.words.specs.Archive.{Row, Archive}
 use Rattle.words.specs.Layout.{header, records, layout, read-rows, read-shape, read, word, behind}
 use Rattle.words.specs.Places.{rows-before}
-use Rattle.words.proofs.Reading.{length-records, read-records}
-use Rattle.words.proofs.Passed.{Passed}
+use Rattle.hypervolume.specs.Front.{front}
+use Rattle.words.specs.Format.{archive-rows}
+use Rattle.words.proofs.Reading.{length-records, read-records, read-layout, behind-layout}
+use Rattle.words.proofs.Passed.{Passed, Sound, passed, sound-passes}
+use Rattle.calls.specs.Calls.{held-points, renewed}
 use Rattle.calls.proofs.Known.{count-rows}
+use Rattle.records.specs.Fronts.{fronted, unfronted}
 
 -- Records put from word 8 on are read again.
 pub rows-put : (w : List ℕ) (rows : List Row) (rest : List ℕ) (n : ℕ) → 8 + length (records rows ++ rest) ≤ length w → length rows ≡ n
@@ -34,10 +38,10 @@ layout-laid a b =
     append-assoc (header a) (records (a .rows) ++ replicate (5 * (a .shape .capacity - length (a .rows))) 0) b
     ∙ ap (λ l. header a ++ l) (append-assoc (records (a .rows)) (replicate (5 * (a .shape .capacity - length (a .rows))) 0) b)
 
--- The header with another count and another total.
-header-set : (a c : Archive) (n s : ℕ) (tail : List ℕ) → c .shape ≡ a .shape → length (c .rows) ≡ n → c .sum ≡ s → set (set (header a ++ tail) 0 n) 5 s ≡ header c ++ tail
+-- The header with another count, another total and another front.
+header-set : (a c : Archive) (n s k : ℕ) (tail : List ℕ) → c .shape ≡ a .shape → length (c .rows) ≡ n → c .sum ≡ s → set (set (set (header a ++ tail) 0 n) 5 s) 6 k ≡ header (fronted k c) ++ tail
 unfolding header
-header-set a c n s tail e f g = rw (e, f, g)
+header-set a c n s k tail e f g = rw (e, f, g)
 
 -- Zeros, part of them dropped or put before others.
 zeros-dropped : (m n k : ℕ) (b : List ℕ) → m + n ≡ k → drop m (replicate k 0 ++ b) ≡ replicate n 0 ++ b
@@ -78,13 +82,13 @@ module _ (w : List ℕ) (h : Passed w) where
       ∙ zeros-dropped (5 * (n - word w 0)) (5 * (word w 1 - n)) (5 * (word w 1 - word w 0)) (behind w) (omega arith)
 
   -- What an update leaves: the records of the new archive, with as many zeros behind them as cover the old ones, and then the
-  -- count and the total.
-  pub stored : (w₂ w₃ : List ℕ) (c : Archive) (m j : ℕ) → c .shape ≡ read w .shape → length (c .rows) ≡ m → word w 0 ≤ m + j → m + j ≤ word w 1
+  -- count, the total and a front.
+  pub stored : (w₂ w₃ : List ℕ) (c : Archive) (m j k : ℕ) → c .shape ≡ read w .shape → length (c .rows) ≡ m → word w 0 ≤ m + j → m + j ≤ word w 1
       → w₂ ≡ put w 8 (records (c .rows) ++ replicate (5 * j) 0)
-      → w₃ ≡ set (set w₂ 0 m) 5 (c .sum)
-      → w₃ ≡ layout c ++ behind w
+      → w₃ ≡ set (set (set w₂ 0 m) 5 (c .sum)) 6 k
+      → w₃ ≡ layout (fronted k c) ++ behind w
   unfolding put read read-shape
-  stored w₂ w₃ c m j shaped many covers fits e₂ e₃ =
+  stored w₂ w₃ c m j f shaped many covers fits e₂ e₃ =
       let long : length (records (c .rows) ++ replicate (5 * j) 0) ≡ 5 * (m + j) =
       length-append (records (c .rows)) (replicate (5 * j) 0)
       ∙ ap₂ _+_ (length-records (c .rows) ∙ ap (λ k. 5 * k) many) (length-replicate {A = ℕ} (5 * j) 0)
@@ -100,6 +104,39 @@ module _ (w : List ℕ) (h : Passed w) where
       ∙ ap₂ (λ a b. a ++ b) head (append-assoc (records (c .rows)) (replicate (5 * j) 0) _)
       ∙ ap (λ l. header (read w) ++ (records (c .rows) ++ l)) tail in
       e₃
-      ∙ ap (λ x. set (set x 0 m) 5 (c .sum)) second
-      ∙ header-set (read w) c m (c .sum) _ shaped many refl
-      ∙ sym (layout-laid c (behind w))
+      ∙ ap (λ x. set (set (set x 0 m) 5 (c .sum)) 6 f) second
+      ∙ header-set (read w) c m (c .sum) f _ shaped many refl
+      ∙ sym (layout-laid (fronted f c) (behind w))
+
+-- The front written in a layout.
+set-front : (a : Archive) (n : ℕ) (b : List ℕ) → set (layout a ++ b) 6 n ≡ layout (record { shape = a .shape; sum = a .sum; front = n; rows = a .rows }) ++ b
+unfolding layout header
+set-front a n b = refl
+
+-- Counted anew and written, in words that pass.
+pub front-written : (w : List ℕ) (n : ℕ) → archive-rows w 0 ≡ 0 → n ≡ front (held-points (read w)) → set w 6 n ≡ layout (renewed (read w .shape) (read w .sum) (read w .rows)) ++ behind w
+front-written w n p e =
+    ap (λ x. set x 6 n) (passed w p .laid) ∙ set-front (read w) n (behind w)
+    ∙ ap (λ k. layout (record { shape = read w .shape; sum = read w .sum; front = k; rows = read w .rows }) ++ behind w) e
+
+-- What an update leaves passes rows 1 to 3, and with the front counted it is the new archive.
+module _ (w w₁ : List ℕ) (c : Archive) (s : Sound c) (e : w₁ ≡ layout (unfronted c) ++ behind w) where
+  sound : Sound (unfronted c)
+  sound =
+      record {
+        shaped = s .shaped;
+        within-box = s .within-box;
+        front-within = omega arith;
+        held-within = s .held-within;
+        rows-fit = s .rows-fit;
+        in-order = s .in-order;
+        apart = s .apart;
+      }
+
+  pub update-passes : archive-rows w₁ 0 ≡ 0
+  update-passes = rw e (sound-passes (unfronted c) (behind w) 0 sound)
+
+  pub update-renewed : (w₂ : List ℕ) → w₂ ≡ layout (renewed (read w₁ .shape) (read w₁ .sum) (read w₁ .rows)) ++ behind w₁ → c .front ≡ front (held-points c) → w₂ ≡ layout c ++ behind w
+  update-renewed w₂ f g =
+      f ∙ ap₂ (λ a b. layout (renewed (a .shape) (a .sum) (a .rows)) ++ b) (ap read e ∙ read-layout (unfronted c) (behind w)) (ap behind e ∙ behind-layout (unfronted c) (behind w) (s .held-within))
+      ∙ ap (λ k. layout (record { shape = c .shape; sum = c .sum; front = k; rows = c .rows }) ++ behind w) (sym g)

@@ -3,3 +3,4 @@ pub mod Columns
 pub mod Amounts
 pub mod Loaded
 pub mod Ranks
+pub mod Fronts

@@ -1,6 +1,7 @@
 // Records in an archive's words: found by their place, entered and struck out; one field of all of them; contributions
-// moved by amounts.
+// moved by amounts; the front of all of them.
 mod amounts;
+mod fronts;
 mod places;
 mod strides;
 
@@ -12,6 +13,8 @@ pub use amounts::raise_at;
 pub use amounts::raise_values;
 pub use amounts::some_differs;
 pub use amounts::within;
+pub use fronts::count_front;
+pub use fronts::renew;
 pub use places::enter_at;
 pub use places::goes_first;
 pub use places::least_place;

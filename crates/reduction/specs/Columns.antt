@@ -89,8 +89,9 @@ pub record Storing (w : List ℕ) (n m : ℕ) (numbers : List ℕ) (coordinates 
   pub points-room : m ≤ length coordinates
   pub kept-room : m ≤ length kept
 
--- These columns are those of an archive of the same shape.
-pub record Stores (w : List ℕ) (a : Archive) (m total : ℕ) (numbers : List ℕ) (coordinates : List (List ℕ)) (kept : List ℕ) : Type 0 where
+-- These columns are those of an archive of the same shape, and this is its front.
+pub record Stores (w : List ℕ) (a : Archive) (m total front : ℕ) (numbers : List ℕ) (coordinates : List (List ℕ)) (kept : List ℕ) : Type 0 where
   pub shaped : a .shape ≡ read w .shape
   pub totalled : a .sum ≡ total
+  pub front-is : a .front ≡ front
   pub held : RowsInColumns (a .rows) m numbers coordinates kept

@@ -1,9 +1,10 @@
 // Reduce: rows 11, 12 and 13, then drops of the least contributor of each moment. One audit; the columns are loaded once,
-// each drop is one update of them, and the words are written once.
+// each drop is one update of them, the words are written once, and the front is counted once, of those that are left.
 use crate::columns::put_records;
 use crate::dropping::drop_least;
 use ask::audited;
 use calls::Answer;
+use front::front;
 use hypervolume::Point;
 use records::load;
 use records::load_points;
@@ -82,23 +83,25 @@ fn drop_all(
     left
 }
 
-// The first m records from their columns, zeros behind them up to the n of before, and the header's count and total.
+// The first m records from their columns, zeros behind them up to the n of before, and the header's count, total and front.
 fn store(
     w: &mut [u64],
     n: usize,
     m: usize,
     total: u64,
+    front: u64,
     numbers: &[u64],
     points: &[[u32; 3]],
     kept: &[u64],
 )
     requires { ⌜ Storing (now w) n m (now numbers) (now points) (now kept) ⌝ }
-    ensures { λ _. ⌜ ((a : Archive) → Stores (now (w .entry)) a m total (now (numbers .entry)) (now (points .entry)) (now (kept .entry)) → now (w .exit) ≡ layout a ++ behind (now (w .entry))) ⌝ }
+    ensures { λ _. ⌜ ((a : Archive) → Stores (now (w .entry)) a m total front (now (numbers .entry)) (now (points .entry)) (now (kept .entry)) → now (w .exit) ≡ layout a ++ behind (now (w .entry))) ⌝ }
 {
     put_records(w, m, numbers, points, kept);
     clear(w, 8 + 5 * m, 5 * (n - m));
     w[0] = m as u64;
     w[5] = total;
+    w[6] = front;
 }
 
 // So many drops: the columns are loaded and written back once.
@@ -125,7 +128,9 @@ fn reduce_by(w: &mut [u64], drops: usize, log: &mut [u64])
         drops,
         log,
     );
-    store(w, n, n - drops, left, &numbers, &points, &kept);
+    let m = n - drops;
+    let size = front(&points[..m]);
+    store(w, n, m, left, size, &numbers, &points, &kept);
 }
 
 // Reduce (k, log). Answers the count of drops.

@@ -1,7 +1,9 @@
-// Remove: rows 9 and 13, then the record struck out and every other contribution moved by the counted amount.
+// Remove: rows 9 and 13, then the record struck out, every other contribution moved by the counted amount, and the front
+// counted anew.
 use ask::count_joints;
 use records::Moved;
 use records::raise_at;
+use records::renew;
 use records::strike;
 use records::within;
 use words::box_of;
@@ -18,6 +20,7 @@ ghost use Rattle.words.specs.Layout.{word, layout, read, behind};
 ghost use Rattle.words.specs.Format.{guard, archive-rows};
 ghost use Rattle.calls.specs.Calls.{remove-overruns, removed};
 ghost use Rattle.calls.specs.Lent.{remove};
+ghost use Rattle.records.specs.Fronts.{unfronted};
 ghost use Rattle.removal.specs.Removing.{number-at, RemoveAmounts, RemoveReady};
 
 // The loss of the trial at place k, its joint counts with the others, said by the places of those that need not be 0, and
@@ -44,10 +47,11 @@ fn raised(w: &[u64], k: usize, places: &mut [u16], counts: &mut [u64]) -> Moved
     }
 }
 
-// Strikes out the record at place k, raises the others' contributions at these places, and writes the header.
+// Strikes out the record at place k, raises the others' contributions at these places, and writes the header, with no front
+// yet.
 fn store(w: &mut [u64], k: usize, loss: u64, places: &[u16], counts: &[u64])
     requires { ⌜ RemoveReady (now w) k loss (now places) (now counts) ⌝ }
-    ensures { λ _. ⌜ now (w .exit) ≡ layout (removed (read (now (w .entry))) (number-at (now (w .entry)) k)) ++ behind (now (w .entry)) ⌝ }
+    ensures { λ _. ⌜ now (w .exit) ≡ layout (unfronted (removed (read (now (w .entry))) (number-at (now (w .entry)) k))) ++ behind (now (w .entry)) ⌝ }
 {
     let n = w[0] as usize;
     let m = n - 1;
@@ -56,6 +60,7 @@ fn store(w: &mut [u64], k: usize, loss: u64, places: &[u16], counts: &[u64])
     raise_at(w, m, places, counts);
     w[0] = m as u64;
     w[5] = total;
+    w[6] = 0;
 }
 
 // Row 13, or the removal of the record at place k.
@@ -72,6 +77,7 @@ fn take_out(w: &mut [u64], k: usize) -> u64
     }
     let m = moved.places;
     store(w, k, moved.amount, &places[..m], &counts[..m]);
+    renew(w);
     0
 }
 

@@ -6,6 +6,7 @@ use lib.ListN.{replicate, length-replicate}
 use Rattle.slices.specs.Choices.{both, pick, either}
 use Rattle.hypervolume.specs.Cells.{holds, dominates, sum, cells, count}
 use Rattle.hypervolume.specs.Counts.{cover, joint, gain}
+use Rattle.hypervolume.specs.Front.{smaller-somewhere, beats, beaten, unbeaten, front}
 use Rattle.text.specs.Fields.{is-digit, decimal, number, field, field-from}
 use Rattle.text.specs.Lines.{four, line}
 use Rattle.text.specs.Justified.{digits, justified, line-of}
@@ -28,6 +29,7 @@ example =
     record {
       shape = record { capacity = 8; rx = 4; ry = 4; rz = 4 };
       sum = 21;
+      front = 4;
       rows =
           record { trial = record { number = 3; x = 2; y = 2; z = 1 }; kept = 4 }
           ∷ record { trial = record { number = 2; x = 2; y = 1; z = 2 }; kept = 2 }
@@ -40,7 +42,8 @@ judged-example : judge 2568 (lines example-card) ≡ archive example
 unfolding judge judge-further in-turn start-rows shape-on trial-on lines lines-from line-count line four field-from field
     number decimal pick is-digit line-of justified digits example-card example
     empty place insert-gain joint-with lowered inserted admission-rows guard within each shape-allowed number-allowed
-    coordinates-allowed held extent trials points either ascends before cover joint gain both holds dominates sum cells count
+    coordinates-allowed held extent trials points either ascends before cover joint gain front unbeaten
+    beaten beats smaller-somewhere both holds dominates sum cells count
 judged-example = refl
 
 report-example : report-text example ≡ example-report

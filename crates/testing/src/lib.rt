@@ -109,7 +109,7 @@ fn past_word(text: &[u8], from: usize) -> usize {
     i
 }
 
-// The number of the digits from `from` on; 0 where there is none.
+// The number of the digits from `from` on, up to 19 of them; 0 where there is none.
 fn number(text: &[u8], from: usize) -> u64 {
     let mut value: u64 = 0;
     let mut i = from;
@@ -121,7 +121,7 @@ fn number(text: &[u8], from: usize) -> u64 {
         if b'9' < byte {
             return value;
         }
-        value = value % 1000000000000 * 10 + (byte - b'0') as u64;
+        value = value % 1000000000000000000 * 10 + (byte - b'0') as u64;
         i += 1;
     }
     value

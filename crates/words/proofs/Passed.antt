@@ -124,6 +124,7 @@ replicate-zeros (n ∷ l) e =
 pub record Sound (a : Archive) : Type 0 where
   pub shaped : shape-allowed (a .shape) ≡ true
   pub within-box : a .sum ≤ box (reference (a .shape))
+  pub front-within : a .front ≤ length (a .rows)
   pub held-within : length (a .rows) ≤ a .shape .capacity
   pub rows-fit : rows-allowed (a .shape) (a .rows) ≡ true
   pub in-order : ordered (trials (a .rows)) ≡ true
@@ -146,7 +147,7 @@ guard-none false n rest e = (refl, e)
 pub record HeaderFacts (w : List ℕ) : Type 0 where
   pub long : 8 + 5 * word w 1 ≤ length w
   pub shaped : shape-allowed (read-shape w) ≡ true
-  pub six : word w 6 ≡ 0
+  pub six : word w 6 ≤ word w 0
   pub seven : word w 7 ≡ 0
   pub counted : word w 0 ≤ word w 1
   pub within-box : word w 5 ≤ box (reference (read-shape w))
@@ -161,7 +162,7 @@ header-facts w h =
     record {
       long = h .whole;
       shaped = shape .0;
-      six = eqb-true _ _ (six .0);
+      six = leb-true _ _ (six .0);
       seven = eqb-true _ _ (seven .0);
       counted = leb-true _ _ (counted .0);
       within-box = leb-true _ _ (counted .1);
@@ -230,7 +231,7 @@ laid-out w t z =
     let rows : 5 * word w 0 ≤ length (drop 8 w) = omega (arith, length-drop 8 w) in
     rw (
       length-read-rows (word w 0) (drop 8 w),
-      header-read w (omega arith) (t .six) (t .seven),
+      header-read w (omega arith) (t .seven),
       records-read (word w 0) (drop 8 w) rows,
       ← rest,
     )
@@ -253,6 +254,7 @@ passed w e =
           record {
             shaped = t .shaped;
             within-box = t .within-box;
+            front-within = subst (λ n. word w 6 ≤ n) (sym (length-read-rows (word w 0) (drop 8 w))) (t .six);
             held-within = subst (λ n. n ≤ word w 1) (sym (length-read-rows (word w 0) (drop 8 w))) (t .counted);
             rows-fit = rows .0;
             in-order = order .0;
@@ -280,7 +282,7 @@ sound-passes a b rest s =
     length-append (layout a) b ∙ ap (λ n. n + length b) (length-layout a (s .held-within)) in
     let allowed : header-allowed (layout a ++ b) ≡ true =
     both-intro _ _ (s .shaped)
-    (both-intro _ _ refl (both-intro _ _ refl (both-intro _ _ (le-leb _ _ (s .held-within)) (le-leb _ _ (s .within-box))))) in
+    (both-intro _ _ (le-leb _ _ (s .front-within)) (both-intro _ _ refl (both-intro _ _ (le-leb _ _ (s .held-within)) (le-leb _ _ (s .within-box))))) in
     let records : records-allowed (layout a ++ b) ≡ true =
     both-intro _ _ (rw rows (both-intro _ _ (s .rows-fit) (both-intro _ _ (s .in-order) (s .apart))))
     (rw (unused-layout a b (s .held-within)) (zeros-replicate (5 * (a .shape .capacity - length (a .rows))))) in

@@ -63,10 +63,10 @@ pub record-words-read : (w : List ℕ) → 5 ≤ length w → record-words (read
 unfolding record-words read-row stretch
 record-words-read w l = sym (take-stretch 5 0 w (omega arith))
 
--- The header of words whose words 6 and 7 are zero.
-pub header-read : (w : List ℕ) → 8 ≤ length w → word w 6 ≡ 0 → word w 7 ≡ 0 → header (read w) ≡ take 8 w
+-- The header of words whose word 7 is zero.
+pub header-read : (w : List ℕ) → 8 ≤ length w → word w 7 ≡ 0 → header (read w) ≡ take 8 w
 unfolding header read read-shape stretch
-header-read w l six seven = sym (rw (take-stretch 8 0 w (omega arith), six, seven, length-read-rows (word w 0) (drop 8 w)))
+header-read w l seven = sym (rw (take-stretch 8 0 w (omega arith), seven, length-read-rows (word w 0) (drop 8 w)))
 
 -- Records read from words are laid out as those words.
 pub records-read : (n : ℕ) (w : List ℕ) → 5 * n ≤ length w → records (read-rows n w) ≡ take (5 * n) w
@@ -87,7 +87,7 @@ read-records (r ∷ rows) b = ap (λ l. r ∷ l) (read-records rows b)
 pub read-layout : (a : Archive) (b : List ℕ) → read (layout a ++ b) ≡ a
 unfolding read read-shape layout header
 read-layout a b =
-    ap (λ l. record { shape = a .shape; sum = a .sum; rows = l })
+    ap (λ l. record { shape = a .shape; sum = a .sum; front = a .front; rows = l })
     (ap (λ w. read-rows (length (a .rows)) w) (append-assoc (records (a .rows)) _ b) ∙ read-records (a .rows) _)
 
 pub length-layout : (a : Archive) → length (a .rows) ≤ a .shape .capacity → length (layout a) ≡ extent (a .shape .capacity)

@@ -31,10 +31,11 @@ pub record Shape : Type 0 where
 abbrev pub reference : Shape → List ℕ
 reference s = s .rx ∷ s .ry ∷ s .rz ∷ []
 
--- An archive: its shape, its kept total and its records.
+-- An archive: its shape, its kept total, the kept size of its front (document 02, W-209) and its records.
 pub record Archive : Type 0 where
   pub shape : Shape
   pub sum : ℕ
+  pub front : ℕ
   pub rows : List Row
 
 unfoldable pub trials : List Row → List Trial

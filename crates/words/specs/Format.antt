@@ -37,11 +37,12 @@ number-allowed n = within 1 9999999 n
 unfoldable pub coordinates-allowed : Trial → Bool
 coordinates-allowed t = each (within 0 1048576) (point t)
 
--- Row 2: "capacity, a reference word or words 6 and 7 not as above; count above capacity; total above the box".
+-- Row 2: "capacity, a reference word or words 6 and 7 not as above; count above capacity; total above the box", and by document
+-- 02, W-209, "row 2 now refuses word 6 above the count; word 7 is still zero".
 unfoldable pub header-allowed : List ℕ → Bool
 header-allowed w =
     both (shape-allowed (read-shape w))
-    (both (eqb (word w 6) 0)
+    (both (leb (word w 6) (word w 0))
     (both (eqb (word w 7) 0)
     (both (leb (word w 0) (word w 1)) (leb (word w 5) (box (reference (read-shape w)))))))
 

@@ -4,12 +4,13 @@ use mathlib.Core.List.{List, _∷_, _++_, []}
 use lib.ListN.{length, getD, drop, replicate}
 use Rattle.words.specs.Archive.{Row, Shape, Archive}
 
--- "Word 0: count of trials. 1: capacity. 2, 3, 4: rx, ry, rz. 5: total. 6 and 7: zero."
-abbrev pub header-words : ℕ → Shape → ℕ → List ℕ
-header-words count s total = count ∷ s .capacity ∷ s .rx ∷ s .ry ∷ s .rz ∷ total ∷ 0 ∷ 0 ∷ []
+-- "Word 0: count of trials. 1: capacity. 2, 3, 4: rx, ry, rz. 5: total. 6 and 7: zero", where by document 02, W-209, word 6
+-- "holds how many trials are on the front" and "word 7 is still zero".
+abbrev pub header-words : ℕ → Shape → ℕ → ℕ → List ℕ
+header-words count s total front = count ∷ s .capacity ∷ s .rx ∷ s .ry ∷ s .rz ∷ total ∷ front ∷ 0 ∷ []
 
 unfoldable pub header : Archive → List ℕ
-header a = header-words (length (a .rows)) (a .shape) (a .sum)
+header a = header-words (length (a .rows)) (a .shape) (a .sum) (a .front)
 
 -- "Records of five words: trial number, x, y, z, contribution."
 unfoldable pub record-words : Row → List ℕ
@@ -49,7 +50,8 @@ read-shape w = record { capacity = word w 1; rx = word w 2; ry = word w 3; rz = 
 
 -- The archive that the words hold.
 unfoldable pub read : List ℕ → Archive
-read w = record { shape = read-shape w; sum = word w 5; rows = read-rows (word w 0) (drop 8 w) }
+read w =
+    record { shape = read-shape w; sum = word w 5; front = word w 6; rows = read-rows (word w 0) (drop 8 w) }
 
 -- "Words from 8 + 5 × capacity on are neither read nor written": the words behind.
 unfoldable pub behind : List ℕ → List ℕ

@@ -81,7 +81,7 @@ fn header_allowed(w: &[u64]) -> bool
     }
     let cells = box_of(reference_point(s));
     both(
-        w[6] == 0,
+        w[6] <= w[0],
         both(w[7] == 0, both(w[0] <= w[1], w[5] <= cells)),
     )
 }

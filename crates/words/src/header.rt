@@ -9,10 +9,10 @@ ghost use Rattle.words.specs.Layout.{header-words};
 ghost use Rattle.words.specs.Places.{as-shape};
 
 // Writes the header.
-pub fn put_header(w: &mut [u64], count: u64, s: Shape, total: u64)
+pub fn put_header(w: &mut [u64], count: u64, s: Shape, total: u64, front: u64)
     requires { ⌜ 8 ≤ length (now w) ⌝ }
-    ensures { λ r. ⌜ now (w .exit) ≡ put (now (w .entry)) 0 (header-words count (as-shape s) total) ⌝ }
+    ensures { λ r. ⌜ now (w .exit) ≡ put (now (w .entry)) 0 (header-words count (as-shape s) total front) ⌝ }
 {
-    let header = [count, s.capacity, s.rx, s.ry, s.rz, total, 0, 0];
+    let header = [count, s.capacity, s.rx, s.ry, s.rz, total, front, 0];
     copy(&header, w, 0);
 }

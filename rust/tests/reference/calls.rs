@@ -2,7 +2,7 @@
 //! "Where each call is turned down", with document 02's changes. An `Err` is a refusal number; lent
 //! memory is written only when nothing can be refused any more.
 
-use super::{box_of, gain_and_joints, totals, Point};
+use super::{box_of, front, gain_and_joints, totals, Point};
 use super::{MAX_CAPACITY, MAX_COORDINATE, MAX_NUMBER, MAX_REFERENCE};
 
 #[derive(Clone, Debug)]
@@ -18,6 +18,7 @@ pub struct Archive {
     pub capacity: u64,
     pub reference: Point,
     pub total: u64,
+    pub front: u64,
     pub records: Vec<Record>,
 }
 
@@ -47,7 +48,8 @@ pub fn read(words: &[u64]) -> Result<Archive, u64> {
     refuse_if(words.len() < 8, 1)?;
     let reference = [words[2], words[3], words[4]];
     refuse_if(!capacity_allowed(words[1]) || !reference_allowed(reference), 2)?;
-    refuse_if(words[6] != 0 || words[7] != 0, 2)?;
+    // Document 02, W-209: "Row 2 now refuses word 6 above the count; word 7 is still zero."
+    refuse_if(words[6] > words[0] || words[7] != 0, 2)?;
     refuse_if(words[0] > words[1] || words[5] > box_of(reference), 2)?;
     let (count, capacity) = (words[0] as usize, words[1] as usize);
     refuse_if(words.len() < 8 + 5 * capacity, 1)?;
@@ -65,7 +67,7 @@ pub fn read(words: &[u64]) -> Result<Archive, u64> {
     numbers.sort_unstable();
     refuse_if(numbers.windows(2).any(|pair| pair[0] == pair[1]), 3)?;
     refuse_if(unused.iter().any(|&word| word != 0), 3)?;
-    Ok(Archive { capacity: words[1], reference, total: words[5], records })
+    Ok(Archive { capacity: words[1], reference, total: words[5], front: words[6], records })
 }
 
 /// What records are in order of.
@@ -76,14 +78,14 @@ fn key(record: &Record) -> [u64; 4] {
 
 impl Archive {
     pub fn empty(reference: Point, capacity: u64) -> Archive {
-        Archive { capacity, reference, total: 0, records: Vec::new() }
+        Archive { capacity, reference, total: 0, front: 0, records: Vec::new() }
     }
 
     /// The words of the archive, all 8 + 5 × capacity of them.
     pub fn words(&self) -> Vec<u64> {
         let [rx, ry, rz] = self.reference;
         let mut words =
-            vec![self.records.len() as u64, self.capacity, rx, ry, rz, self.total, 0, 0];
+            vec![self.records.len() as u64, self.capacity, rx, ry, rz, self.total, self.front, 0];
         for record in &self.records {
             words.push(record.number);
             words.extend(record.point);
@@ -127,6 +129,7 @@ impl Archive {
         self.total += gain;
         self.records.push(Record { number, point, contribution: gain });
         self.records.sort_by_key(key);
+        self.front = front(&self.points());
         Ok(())
     }
 
@@ -144,6 +147,7 @@ impl Archive {
         }
         self.total -= gain;
         self.records = others;
+        self.front = front(&points);
         Ok(())
     }
 
@@ -157,7 +161,8 @@ impl Archive {
     fn audit(&self) -> bool {
         let counts = totals(&self.points(), self.reference);
         let kept: Vec<u64> = self.records.iter().map(|r| r.contribution).collect();
-        self.total == counts.covered && kept == counts.alone
+        let front = front(&self.points());
+        self.total == counts.covered && self.front == front && kept == counts.alone
     }
 }
 

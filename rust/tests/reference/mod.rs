@@ -43,6 +43,15 @@ fn count(points: &[Point], corner: Point, reference: Point) -> Counts {
     }
 }
 
+/// How many of the trials are on the front: "those for which no other trial is at most equal on all
+/// axes and smaller on at least one" (document 02, W-209). All pairs.
+pub fn front(trials: &[Point]) -> u64 {
+    let at_most = |p: &Point, q: &Point| (0..3).all(|axis| p[axis] <= q[axis]);
+    let smaller = |p: &Point, q: &Point| (0..3).any(|axis| p[axis] < q[axis]);
+    let beaten = |q: &&Point| trials.iter().any(|p| at_most(p, q) && smaller(p, q));
+    trials.iter().filter(|q| !beaten(q)).count() as u64
+}
+
 /// The total and every contribution.
 pub fn totals(trials: &[Point], reference: Point) -> Counts {
     count(trials, [0; 3], reference)

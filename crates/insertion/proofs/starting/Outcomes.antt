@@ -10,7 +10,8 @@ use lib.ListN.{length, drop, replicate, length-replicate, replicate-append-repli
 use lib.Seq.{drop-at}
 use Rattle.slices.specs.Put.{put}
 use Rattle.slices.proofs.Put.{put-front}
-use Rattle.words.specs.Archive.{Shape}
+use Rattle.hypervolume.specs.Front.{unbeaten, front}
+use Rattle.words.specs.Archive.{Shape, trials, points}
 use Rattle.words.specs.Layout.{extent, layout, header, records, header-words}
 use Rattle.words.specs.Format.{guard, shape-allowed}
 use Rattle.words.proofs.Passed.{guard-none}
@@ -47,9 +48,9 @@ start-refused w s {k} e other = outcome-refused (start w s) w [] k (leaves-refus
 
 pub start-done : (w w₁ w₂ : List ℕ) (s : Shape) (end : ℕ) {k : ℕ} → k ≡ start-rows (length w) s → k ≡ 0 → end ≡ 8 + 5 * s .capacity
     → w₁ ≡ put w 0 (replicate end 0)
-    → w₂ ≡ put w₁ 0 (header-words 0 s 0)
+    → w₂ ≡ put w₁ 0 (header-words 0 s 0 0)
     → (_≡_ {A = ℕ} 0 (start w s .refusal)) × (w₂ ≡ start w s .words)
-unfolding start extent layout header records empty put
+unfolding start extent layout header records empty trials points front unbeaten put
 start-done w w₁ w₂ s end e none g e₁ e₂ =
     let rest : List ℕ = drop (8 + 5 * s .capacity) w in
     let front : w₁ ≡ replicate 8 0 ++ (replicate (5 * s .capacity) 0 ++ rest) =
@@ -62,6 +63,6 @@ start-done w w₁ w₂ s end e none g e₁ e₂ =
     ap (drop 8) front ∙ drop-at (replicate 8 0) (replicate (5 * s .capacity) 0 ++ rest) 8 (length-replicate {A = ℕ} 8 0) in
     let after : w₂ ≡ layout (empty s) ++ drop (8 + 5 * s .capacity) w =
     e₂
-    ∙ ap (λ k. header-words 0 s 0 ++ k) (tail ∙ ap (λ k. replicate (5 * k) 0 ++ rest) (sym (sub-zero (s .capacity)))) in
+    ∙ ap (λ k. header-words 0 s 0 0 ++ k) (tail ∙ ap (λ k. replicate (5 * k) 0 ++ rest) (sym (sub-zero (s .capacity)))) in
     let left = leaves-done w [] (start-rows (length w) s) 0 (layout (empty s) ++ drop (8 + 5 * s .capacity) w) [] (sym e ∙ none) in
     (sym (ap (λ (x : Outcome). x .refusal) left), after ∙ sym (ap (λ (x : Outcome). x .words) left))

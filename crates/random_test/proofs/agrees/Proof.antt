@@ -52,6 +52,12 @@ cells-requires c κs = search needs
 at-requires : tie.Need-at-requires Inv-loop μ-loop
 at-requires c κs = search needs
 
+at-requires-2 : tie.Need-at-requires-2 Inv-loop μ-loop
+at-requires-2 c κs = search needs
+
+front-requires : tie.Need-front-requires Inv-loop μ-loop
+front-requires c κs = search needs
+
 returns : tie.Need-returns Inv-loop μ-loop
 returns c = search needs
 
@@ -78,5 +84,7 @@ agrees-spec =
     loop-again
     cells-requires
     at-requires
+    at-requires-2
+    front-requires
     returns
     returns-2)

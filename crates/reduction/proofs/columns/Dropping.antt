@@ -15,6 +15,7 @@ use Rattle.calls.specs.Calls.{reference-of, held-points, row-of, others, withou
 use Rattle.calls.specs.Counted.{IsCounted}
 use Rattle.calls.proofs.Drops.{leaving, DropKeeps, drop-keeps}
 use Rattle.calls.proofs.Counted.{removed-trials}
+use Rattle.calls.proofs.Sound.{front-few}
 use Rattle.records.specs.Columns.{field-of, column, leave-out}
 use Rattle.records.specs.Amounts.{moved, shares}
 use Rattle.records.proofs.LeaveOut.{others-at, row-of-at}
@@ -32,6 +33,7 @@ sound-archive a d =
     record {
       shaped = d .shaped;
       within-box = rw (d .counted .sum) (total-le-box (reference-of a) (held-points a));
+      front-within = rw (d .counted .front) (front-few (a .rows));
       held-within = d .held-within;
       rows-fit = rows .0;
       in-order = order .0;

@@ -5,6 +5,8 @@ use mathlib.Core.List.{List, _++_}
 use native.Mathlib.Omega.{arith}
 use lib.ListN.{length, take, drop, set, replicate, length-set}
 use lib.Seq.{take-at}
+use Rattle.hypervolume.specs.Front.{front}
+use Rattle.front.specs.Keys.{InOrder}
 use Rattle.slices.specs.Put.{put}
 use Rattle.slices.proofs.Put.{put-front, put-then}
 use Rattle.words.specs.Archive.{Row, Archive, reference, trials, points}
@@ -16,10 +18,12 @@ use Rattle.words.proofs.Reading.{length-records, length-read-rows}
 use Rattle.calls.specs.Calls.{after-drops}
 use Rattle.calls.specs.Counted.{IsCounted}
 use Rattle.calls.proofs.Known.{count-rows, known}
+use Rattle.calls.proofs.Drops.{DropsDown, drops-down}
 use Rattle.records.specs.Columns.{column, leave-out}
 use Rattle.records.specs.Loaded.{PointsLoaded}
 use Rattle.records.proofs.Columns.{length-column}
 use Rattle.records.proofs.LeaveOut.{leave-none}
+use Rattle.records.proofs.HeldPoints.{sound-in-order}
 use Rattle.records.proofs.Stored
 use Rattle.reduction.specs.Columns.{RowsInColumns, InColumns, Droppable, Storing, Stores}
 use Rattle.reduction.proofs.columns.Dropping.{droppable-archive}
@@ -62,9 +66,24 @@ module _ (w : List ℕ) (n : ℕ) (p : archive-rows w 0 ≡ 0) (en : n ≡ word 
   droppable-words c = droppable-archive (read w) (known w p .sound) c
 
 -- What writing back asks, and what it leaves.
-module _ {w : List ℕ} (drops n : ℕ) {total : ℕ} {r numbers kept : List ℕ} {coordinates : List (List ℕ)} (h : InColumns (after-drops drops (read w)) r (n - drops) total numbers coordinates kept) where
-  pub stores : Stores w (after-drops drops (read w)) (n - drops) total numbers coordinates kept
-  stores = record { shaped = drops-shape drops (read w); totalled = h .totalled; held = h .held }
+module _ (w : List ℕ) (drops n : ℕ) {total : ℕ} {r numbers kept : List ℕ} {coordinates : List (List ℕ)} (h : InColumns (after-drops drops (read w)) r (n - drops) total numbers coordinates kept) where
+  -- The drops keep the archive sound and counted, so the front of the points left is its front: of all the fronts on the way only
+  -- this one is seen.
+  module _ (p : archive-rows w 0 ≡ 0) (c : IsCounted (read w)) (l : drops ≤ word w 0) where
+    down : DropsDown drops (read w)
+    down = drops-down drops (read w) (known w p .sound) c (omega (arith, count-rows w))
+
+    pub left-in-order : InOrder (take (n - drops) coordinates)
+    left-in-order = rw (h .held .placed) (sound-in-order (after-drops drops (read w)) (down .sound))
+
+    pub stores : (size : ℕ) → size ≡ front (take (n - drops) coordinates) → Stores w (after-drops drops (read w)) (n - drops) total size numbers coordinates kept
+    stores size e =
+        record {
+          shaped = drops-shape drops (read w);
+          totalled = h .totalled;
+          front-is = down .counted .front ∙ ap front (sym (h .held .placed)) ∙ sym e;
+          held = h .held;
+        }
 
   pub storing : archive-rows w 0 ≡ 0 → n ≡ word w 0 → Storing w n (n - drops) numbers coordinates kept
   storing p e =
@@ -95,14 +114,14 @@ module _ {w : List ℕ} {n m : ℕ} {numbers kept : List ℕ} {coordinates : Lis
   pub zeros-fit : 5 * (n - m) ≤ 2560
   zeros-fit = let counted : n ≡ word w 0 = h .counted in omega (arith, known w (h .passes) .few)
 
-pub stored-long : (w w₁ w₂ : List ℕ) (m total : ℕ) → length w₁ ≡ length w → length w₂ ≡ length w₁ → length (set (set w₂ 0 m) 5 total) ≡ length w
-stored-long w w₁ w₂ m total e f = length-set (set w₂ 0 m) 5 total ∙ length-set w₂ 0 m ∙ f ∙ e
+pub stored-long : (w w₁ w₂ : List ℕ) (m total size : ℕ) → length w₁ ≡ length w → length w₂ ≡ length w₁ → length (set (set (set w₂ 0 m) 5 total) 6 size) ≡ length w
+stored-long w w₁ w₂ m total size e f = length-set (set (set w₂ 0 m) 5 total) 6 size ∙ length-set (set w₂ 0 m) 5 total ∙ length-set w₂ 0 m ∙ f ∙ e
 
-pub stored : {w : List ℕ} {n m : ℕ} {numbers kept : List ℕ} {coordinates : List (List ℕ)} (w₁ w₂ w₃ : List ℕ) (total : ℕ) → Storing w n m numbers coordinates kept
+pub stored : {w : List ℕ} {n m : ℕ} {numbers kept : List ℕ} {coordinates : List (List ℕ)} (w₁ w₂ w₃ : List ℕ) (total size : ℕ) → Storing w n m numbers coordinates kept
     → ((rows : List Row) → RowsInColumns rows m numbers coordinates kept → w₁ ≡ put w 8 (records rows))
-    → w₂ ≡ put w₁ (8 + 5 * m) (replicate (5 * (n - m)) 0) → w₃ ≡ set (set w₂ 0 m) 5 total
-    → (a : Archive) → Stores w a m total numbers coordinates kept → w₃ ≡ layout a ++ behind w
-stored {w} {n} {m} {numbers} {kept} {coordinates} w₁ w₂ w₃ total h e₁ e₂ e₃ a s =
+    → w₂ ≡ put w₁ (8 + 5 * m) (replicate (5 * (n - m)) 0) → w₃ ≡ set (set (set w₂ 0 m) 5 total) 6 size
+    → (a : Archive) → Stores w a m total size numbers coordinates kept → w₃ ≡ layout a ++ behind w
+stored {w} {n} {m} {numbers} {kept} {coordinates} w₁ w₂ w₃ total size h e₁ e₂ e₃ a s =
     let k = known w (h .passes) in
     let many : length (a .rows) ≡ m = s .held .many in
     let long : length (records (a .rows)) ≡ 5 * m = length-records (a .rows) ∙ ap (λ i. 5 * i) many in
@@ -110,8 +129,8 @@ stored {w} {n} {m} {numbers} {kept} {coordinates} w₁ w₂ w₃ total h e₁ e�
     let whole : 8 + 5 * word w 1 ≤ length w = k .long in
     let counted : n ≡ word w 0 = h .counted in
     let fewer : m ≤ n = h .fewer in
-    Stored.stored w (passed w (h .passes)) w₂ w₃ a m (n - m) (s .shaped) many (omega arith) (omega arith)
+    Stored.stored w (passed w (h .passes)) w₂ w₃ a m (n - m) (a .front) (s .shaped) many (omega arith) (omega arith)
     (e₂
     ∙ ap₂ (λ x i. put x (8 + i) (replicate (5 * (n - m)) 0)) (e₁ (a .rows) (s .held)) (sym long)
     ∙ put-then w 8 (records (a .rows)) (replicate (5 * (n - m)) 0) (omega arith))
-    (e₃ ∙ ap (set (set w₂ 0 m) 5) (sym (s .totalled)))
+    (e₃ ∙ ap₂ (λ k j. set (set (set w₂ 0 m) 5 k) 6 j) (sym (s .totalled)) (sym (s .front-is)))

@@ -6,12 +6,15 @@ use mathlib.Core.List.{List, _++_, map}
 use native.Mathlib.Nat.{le-trans}
 use native.Mathlib.Omega.{arith}
 use lib.ListN.{length, take, set, replicate, length-map, length-append}
-use Rattle.words.specs.Archive.{Row}
+use Rattle.words.specs.Archive.{Row, trials}
 use Rattle.words.specs.Layout.{records, layout, read, word, behind}
 use Rattle.words.specs.Places.{rows-before, row-at}
-use Rattle.words.proofs.Passed.{Passed, passed}
-use Rattle.calls.specs.Calls.{box-of, row-of, others, without, removal-loss, raised, removed, remove-overruns}
+use Rattle.words.proofs.Passed.{Passed, Sound, passed}
+use Rattle.words.proofs.Places.{rows-before-at}
+use Rattle.words.proofs.Held.{held-at}
+use Rattle.calls.specs.Calls.{box-of, row-of, others, without, removal-loss, raised, removed, renewed, remove-overruns}
 use Rattle.records.specs.Columns.{rekept, leave-out, column}
+use Rattle.records.specs.Fronts.{unfronted}
 use Rattle.calls.proofs.Known.{count-rows, known}
 use Rattle.records.proofs.LeaveOut.{length-leave-out}
 use Rattle.records.proofs.Stored
@@ -22,7 +25,9 @@ use Rattle.words.proofs.Reading.{length-records}
 use lib.Dec.{ltb}
 use borrow.Author.Tests.{not-true, not-false, ltb-false}
 use Rattle.slices.proofs.Choices.{either-false}
-use Rattle.words.specs.Format.{archive-rows}
+use Rattle.words.specs.Format.{archive-rows, held}
+use Rattle.calls.proofs.Sound.{removed-sound}
+use Rattle.records.proofs.RowAt.{blank}
 use Rattle.records.specs.declared.amounts.Moved.{Moved}
 use Rattle.records.specs.Amounts.{moved, Each, amounts-at}
 use Rattle.removal.specs.Removing.{number-at, removal-shares, RemoveAmounts, RemoveReady}
@@ -86,8 +91,8 @@ remove-stored : (w w₁ w₂ w₃ vs : List ℕ) (number k m : ℕ) → Passed w
     → rekept (leave-out k (read w .rows)) vs ≡ map (raised (without (read w) number) (row-of number (read w .rows) .trial)) (leave-out k (read w .rows))
     → w₁ ≡ put w 8 (records (leave-out k (rows-before w (word w 0))) ++ replicate 5 0)
     → w₂ ≡ put w₁ 8 (records (rekept (rows-before w₁ m) vs))
-    → w₃ ≡ set (set w₂ 0 m) 5 (word w 5 - removal-loss (read w) number)
-    → w₃ ≡ layout (removed (read w) number) ++ behind w
+    → w₃ ≡ set (set (set w₂ 0 m) 5 (word w 5 - removal-loss (read w) number)) 6 0
+    → w₃ ≡ layout (unfronted (removed (read w) number)) ++ behind w
 unfolding removed read
 remove-stored w w₁ w₂ w₃ vs number k m h s l out raise e₁ e₂ e₃ =
     let a = read w in
@@ -103,7 +108,7 @@ remove-stored w w₁ w₂ w₃ vs number k m h s l out raise e₁ e₂ e₃ =
     ∙ ap₂ (λ x y. put x 8 (records (rekept y vs))) e₁ (gap .left)
     ∙ ap (λ x. put (put w 8 (records left ++ replicate 5 0)) 8 (records x)) raise
     ∙ put-front-over w 8 (records left) (replicate 5 0) (records rows) (gap .fits) even in
-    Stored.stored w h w₂ w₃ (removed a number) m 1 refl (ap length gone ∙ many) (omega arith) (omega arith)
+    Stored.stored w h w₂ w₃ (removed a number) m 1 0 refl (ap length gone ∙ many) (omega arith) (omega arith)
     (second ∙ ap (λ x. put w 8 (records x ++ replicate 5 0)) (sym gone)) e₃
 
 module _ (w : List ℕ) (k : ℕ) {w₁ : List ℕ} {loss : ℕ} {places counts : List ℕ} {n m : ℕ} (h : RemoveReady w k loss places counts) (en : n ≡ word w 0) (em : m ≡ n - 1) (e₁ : w₁ ≡ put w 8 (records (leave-out k (rows-before w n)) ++ replicate 5 0)) where
@@ -129,8 +134,8 @@ module _ (w : List ℕ) (k : ℕ) {w₁ : List ℕ} {loss : ℕ} {places counts 
 
   pub removal-stored : (w₂ w₃ : List ℕ)
       → w₂ ≡ put w₁ 8 (records (rekept (rows-before w₁ m) (moved (λ v a. v + a) (column 4 (rows-before w₁ m)) (amounts-at m places counts))))
-      → w₃ ≡ set (set w₂ 0 m) 5 (word w 5 - loss)
-      → w₃ ≡ layout (removed (read w) (number-at w k)) ++ behind w
+      → w₃ ≡ set (set (set w₂ 0 m) 5 (word w 5 - loss)) 6 0
+      → w₃ ≡ layout (unfronted (removed (read w) (number-at w k))) ++ behind w
   removal-stored w₂ w₃ e₂ e₃ =
       let rows = leave-out k (read w .rows) in
       let a = without (read w) (number-at w k) in
@@ -139,4 +144,21 @@ module _ (w : List ℕ) (k : ℕ) {w₁ : List ℕ} {loss : ℕ} {places counts 
       remove-stored w w₁ w₂ w₃ _ (number-at w k) k m (passed w (h .passes)) one-less inside (out .rest)
       (ap₂ (λ x y. rekept rows (moved (λ v a. v + a) (column 4 x) y)) left-rows amounts ∙ raised-rows a (row-at w k .trial) rows ∙ ap (λ x. map (raised a (x .trial)) rows) (sym (out .gone)))
       first e₂
-      (e₃ ∙ ap (λ x. set (set w₂ 0 m) 5 (word w 5 - x)) (h .lost))
+      (e₃ ∙ ap (λ x. set (set (set w₂ 0 m) 5 (word w 5 - x)) 6 0) (h .lost))
+
+-- What is stored passes rows 1 to 3, and with the front counted it is the archive with the trial removed.
+module _ (w w₁ : List ℕ) (k : ℕ) (p : archive-rows w 0 ≡ 0) (q : k < word w 0) (f : remove-overruns (read w) (number-at w k) ≡ false) (e : w₁ ≡ layout (unfronted (removed (read w) (number-at w k))) ++ behind w) where
+  known-number : held (number-at w k) (trials (read w .rows)) ≡ true
+  unfolding read number-at
+  known-number =
+      ap (λ r. held (r .trial .number) (trials (rows-before w (word w 0)))) (sym (rows-before-at w (word w 0) k blank q))
+      ∙ held-at (rows-before w (word w 0)) k blank (omega (arith, count-rows w))
+
+  sound : Sound (removed (read w) (number-at w k))
+  sound = removed-sound (read w) (number-at w k) (known w p .sound) (record { known = known-number; fits = f })
+
+  pub removal-passes : archive-rows w₁ 0 ≡ 0
+  removal-passes = Stored.update-passes w w₁ (removed (read w) (number-at w k)) sound e
+
+  pub removal-renewed : (w₂ : List ℕ) → w₂ ≡ layout (renewed (read w₁ .shape) (read w₁ .sum) (read w₁ .rows)) ++ behind w₁ → w₂ ≡ layout (removed (read w) (number-at w k)) ++ behind w
+  removal-renewed w₂ g = Stored.update-renewed w w₁ (removed (read w) (number-at w k)) sound e w₂ g (unfold removed in refl)

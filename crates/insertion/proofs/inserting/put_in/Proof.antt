@@ -1,4 +1,4 @@
--- `put_in` meets its contract: refused by row 13, or stored.
+-- `put_in` meets its contract: refused by row 13, or stored and its front counted.
 use mathlib.Core.Path.{sym, subst}
 use native.Mathlib.Omega.{arith}
 use lib.Seq.{length-take-le}
@@ -8,7 +8,7 @@ use Rattle.hypervolume.specs.Sorted.{Small}
 use Rattle.words.proofs.Places.{point-of-trial}
 use Rattle.words.proofs.Passed.{coordinates-small}
 use Rattle.insertion.proofs.inserting.Admitting.{admitted}
-use Rattle.insertion.proofs.inserting.Storing.{overruns, fits-box, storing}
+use Rattle.insertion.proofs.inserting.Storing.{overruns, fits-box, storing, insertion-passes, insertion-renewed}
 use Rattle.calls.proofs.Answers.{row-13-given, row-13-passed}
 use Rattle.insertion.proofs.inserting.put_in.Statement.{statement}
 use Rattle.insertion.proofs.inserting.put_in.Tie as tie
@@ -49,11 +49,14 @@ slice-aggregate-store-2 c = sym (length-take-le _ _ (omega (arith, c .before .be
 store-requires : tie.Need-store-requires
 store-requires c κs = storing (c .before .before .before .before .before .before .before .judge .ensures _) (c .before .before .before .before .before .before .before .before .before .before .before .before .pre .0) (admitted (c .before .before .before .before .before .before .before .before .before .before .before .before .args .w .now) _ (c .before .before .before .before .before .before .before .before .before .before .before .before .pre .0) (c .before .before .before .before .before .before .before .before .before .before .before .before .pre .1) .free) (not-false _ (c .before .before .before .if1 .left))
 
+renew-requires : tie.Need-renew-requires
+renew-requires c κs = insertion-passes _ _ _ (c .before .before .before .before .before .before .before .before .before .before .before .before .before .before .before .before .pre .0) (c .before .before .before .before .before .before .before .before .before .before .before .before .before .before .before .before .pre .1) (fits-box (c .before .before .before .before .before .before .before .before .before .before .before .judge .ensures _) (not-false _ (c .before .before .before .before .before .before .before .if1 .left))) (c .before .before .before .store .ensures)
+
 same-length-2 : tie.Need-same-length-2
 same-length-2 c = search needs
 
 returns-2 : tie.Need-returns-2
-returns-2 c = row-13-passed _ _ _ _ (fits-box (c .before .before .before .before .before .before .before .before .before .before .judge .ensures _) (not-false _ (c .before .before .before .before .before .before .if1 .left))) (c .before .before .store .ensures)
+returns-2 c = row-13-passed _ _ _ _ (fits-box (c .before .before .before .before .before .before .before .before .before .before .before .before .before .before .judge .ensures _) (not-false _ (c .before .before .before .before .before .before .before .before .before .before .if1 .left))) (insertion-renewed _ _ _ (c .before .before .before .before .before .before .before .before .before .before .before .before .before .before .before .before .before .before .before .pre .0) (c .before .before .before .before .before .before .before .before .before .before .before .before .before .before .before .before .before .before .before .pre .1) (fits-box (c .before .before .before .before .before .before .before .before .before .before .before .before .before .before .judge .ensures _) (not-false _ (c .before .before .before .before .before .before .before .before .before .before .if1 .left))) (c .before .before .before .before .before .before .store .ensures) _ (c .before .before .renew .ensures))
 
 pub put-in-spec : {M : Type 1} → statement M
 put-in-spec =
@@ -69,5 +72,6 @@ put-in-spec =
     array-share-prefix-counts
     slice-aggregate-store-2
     store-requires
+    renew-requires
     same-length-2
     returns-2)

@@ -31,11 +31,14 @@ slice-write-w c = omega (arith, header-room (c .before .before .before .before .
 slice-write-w-2 : tie.Need-slice-write-w-2
 slice-write-w-2 c = omega (arith, header-room (c .before .before .before .before .before .before .before .before .before .before .before .pre) (c .before .before .before .before .before .before .put-records .last .0) (c .before .before .clear .last .0) (c .before .before .before .before .before .before .put-records .kept .0) (c .before .before .clear .kept .0), length-set (c .before .before .clear .last .0) 0 (c .before .before .before .before .before .before .before .before .before .before .before .args .m))
 
+slice-write-w-3 : tie.Need-slice-write-w-3
+slice-write-w-3 c = simp length-set (omega (arith, header-room (c .before .before .before .before .before .before .before .before .before .before .before .pre) (c .before .before .before .before .before .before .put-records .last .0) (c .before .before .clear .last .0) (c .before .before .before .before .before .before .put-records .kept .0) (c .before .before .clear .kept .0)))
+
 same-length : tie.Need-same-length
-same-length c = stored-long (c .before .before .before .before .before .before .before .before .before .before .before .args .w .now) (c .before .before .before .before .before .before .put-records .last .0) (c .before .before .clear .last .0) _ _ (c .before .before .before .before .before .before .put-records .kept .0) (c .before .before .clear .kept .0)
+same-length c = stored-long (c .before .before .before .before .before .before .before .before .before .before .before .args .w .now) (c .before .before .before .before .before .before .put-records .last .0) (c .before .before .clear .last .0) _ _ _ (c .before .before .before .before .before .before .put-records .kept .0) (c .before .before .clear .kept .0)
 
 returns : tie.Need-returns
-returns c = stored (c .before .before .before .before .before .before .put-records .last .0) (c .before .before .clear .last .0) _ _ (c .before .before .before .before .before .before .before .before .before .before .before .pre) (c .before .before .before .before .before .before .put-records .ensures) (c .before .before .clear .ensures) refl
+returns c = stored (c .before .before .before .before .before .before .put-records .last .0) (c .before .before .clear .last .0) _ _ _ (c .before .before .before .before .before .before .before .before .before .before .before .pre) (c .before .before .before .before .before .before .put-records .ensures) (c .before .before .clear .ensures) refl
 
 pub store-spec : {M : Type 1} → statement M
 store-spec =
@@ -49,5 +52,6 @@ store-spec =
     clear-requires
     slice-write-w
     slice-write-w-2
+    slice-write-w-3
     same-length
     returns)

@@ -36,6 +36,9 @@ slice-write-w c = omega (arith, known (c .before .before .before .before .before
 slice-write-w-2 : tie.Need-slice-write-w-2
 slice-write-w-2 c = simp length-set (omega (arith, known (c .before .before .before .before .before .before .before .before .before .before .before .before .before .args .w .now) (c .before .before .before .before .before .before .before .before .before .before .before .before .before .pre .passes), c .before .before .before .before .before .before .strike .kept .0, c .before .before .raise-at .kept .0))
 
+slice-write-w-3 : tie.Need-slice-write-w-3
+slice-write-w-3 c = simp length-set (omega (arith, known (c .before .before .before .before .before .before .before .before .before .before .before .before .before .args .w .now) (c .before .before .before .before .before .before .before .before .before .before .before .before .before .pre .passes), c .before .before .before .before .before .before .strike .kept .0, c .before .before .raise-at .kept .0))
+
 same-length : tie.Need-same-length
 same-length c = simp length-set (omega (arith, c .before .before .before .before .before .before .strike .kept .0, c .before .before .raise-at .kept .0))
 
@@ -56,5 +59,6 @@ store-spec =
     raise-at-requires
     slice-write-w
     slice-write-w-2
+    slice-write-w-3
     same-length
     returns)

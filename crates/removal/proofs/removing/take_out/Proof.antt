@@ -1,4 +1,4 @@
--- `take_out` meets its contract: refused by row 13, or stored.
+-- `take_out` meets its contract: refused by row 13, or stored and its front counted.
 use mathlib.Core.Path.{sym}
 use Prim.Native.Nat.{_≤_}
 use native.Mathlib.Omega.{arith}
@@ -6,7 +6,7 @@ use lib.Seq.{length-take-le}
 use borrow.Author.Needs.{needs}
 use borrow.Author.Tests.{not-true, not-false}
 use Rattle.calls.proofs.Answers.{row-13-given, row-13-passed}
-use Rattle.removal.proofs.removing.Storing.{overruns, fits-box, places-few, striking}
+use Rattle.removal.proofs.removing.Storing.{overruns, fits-box, places-few, striking, removal-passes, removal-renewed}
 use Rattle.removal.proofs.removing.take_out.Statement.{statement}
 use Rattle.removal.proofs.removing.take_out.Tie as tie
 
@@ -44,11 +44,14 @@ slice-aggregate-store-2 c = sym (length-take-le _ (c .before .before .before .be
 store-requires : tie.Need-store-requires
 store-requires c κs = striking (c .before .before .before .before .before .before .before .raised .ensures) (c .before .before .before .before .before .before .before .before .before .before .before .before .pre .0) (search needs) (search needs) (c .before .before .before .before .before .before .before .before .before .before .before .before .pre .1) (not-false _ (c .before .before .before .if1 .left))
 
+renew-requires : tie.Need-renew-requires
+renew-requires c κs = removal-passes _ _ _ (c .before .before .before .before .before .before .before .before .before .before .before .before .before .before .before .before .pre .0) (c .before .before .before .before .before .before .before .before .before .before .before .before .before .before .before .before .pre .1) (fits-box (c .before .before .before .before .before .before .before .before .before .before .before .raised .ensures) (not-false _ (c .before .before .before .before .before .before .before .if1 .left))) (c .before .before .before .store .ensures)
+
 same-length-2 : tie.Need-same-length-2
 same-length-2 c = search needs
 
 returns-2 : tie.Need-returns-2
-returns-2 c = row-13-passed _ _ _ _ (fits-box (c .before .before .before .before .before .before .before .before .before .before .raised .ensures) (not-false _ (c .before .before .before .before .before .before .if1 .left))) (c .before .before .store .ensures)
+returns-2 c = row-13-passed _ _ _ _ (fits-box (c .before .before .before .before .before .before .before .before .before .before .before .before .before .before .raised .ensures) (not-false _ (c .before .before .before .before .before .before .before .before .before .before .if1 .left))) (removal-renewed _ _ _ (c .before .before .before .before .before .before .before .before .before .before .before .before .before .before .before .before .before .before .before .pre .0) (c .before .before .before .before .before .before .before .before .before .before .before .before .before .before .before .before .before .before .before .pre .1) (fits-box (c .before .before .before .before .before .before .before .before .before .before .before .before .before .before .raised .ensures) (not-false _ (c .before .before .before .before .before .before .before .before .before .before .if1 .left))) (c .before .before .before .before .before .before .store .ensures) _ (c .before .before .renew .ensures))
 
 pub take-out-spec : {M : Type 1} → statement M
 take-out-spec =
@@ -64,5 +67,6 @@ take-out-spec =
     array-share-prefix-counts
     slice-aggregate-store-2
     store-requires
+    renew-requires
     same-length-2
     returns-2)

@@ -39,6 +39,9 @@ shared-slice-read-both-4 c = search needs
 shared-slice-read-both-5 : tie.Need-shared-slice-read-both-5
 shared-slice-read-both-5 c = search needs
 
+shared-slice-read-both-6 : tie.Need-shared-slice-read-both-6
+shared-slice-read-both-6 c = search needs
+
 both-requires : tie.Need-both-requires
 both-requires c κs = search needs
 
@@ -51,7 +54,7 @@ both-requires-3 c κs = search needs
 returns-2 : tie.Need-returns-2
 unfolding header-allowed both
 returns-2 c =
-    let d = c .before .before .before .before .before .before .before .before in
+    let d = c .before .before .before .before .before .before .before .before .before in
     rw (← d .before .before .before .before .shape-of .ensures, sym (d .before .before .before .shape-allowed .ensures) ∙ not-false _ (d .before .before .if1 .left), ← d .before .reference-point .ensures, ← d .box-of .ensures)
     cc
 
@@ -69,6 +72,7 @@ header-allowed-spec =
     shared-slice-read-both-3
     shared-slice-read-both-4
     shared-slice-read-both-5
+    shared-slice-read-both-6
     both-requires
     both-requires-2
     both-requires-3

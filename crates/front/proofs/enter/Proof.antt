@@ -1,0 +1,54 @@
+-- `enter` meets its contract: what the levels tell, then the y entered in each.
+use mathlib.Core.Path.{ap, _∙_}
+use lib.Dec.{ltb}
+use Rattle.hypervolume.specs.Cells.{holds}
+use borrow.Author.Needs.{needs}
+use Rattle.front.proofs.enter.Statement.{statement}
+use Rattle.front.proofs.enter.Tie as tie
+
+least-requires : tie.Need-least-requires
+least-requires c κs = search needs
+
+less-requires : tie.Need-less-requires
+less-requires c κs = search needs
+
+lower-requires : tie.Need-lower-requires
+lower-requires c κs = search needs
+
+lower-requires-2 : tie.Need-lower-requires-2
+lower-requires-2 c κs = search needs
+
+lower-requires-3 : tie.Need-lower-requires-3
+lower-requires-3 c κs = search needs
+
+same-length : tie.Need-same-length
+same-length c = search needs
+
+same-length-2 : tie.Need-same-length-2
+same-length-2 c = search needs
+
+same-length-3 : tie.Need-same-length-3
+same-length-3 c = search needs
+
+returns : tie.Need-returns
+returns c =
+    record {
+      told = c .before .before .before .before .before .before .before .before .before .before .before .before .less .ensures ∙ ap (λ m. holds (ltb (c .before .before .before .before .before .before .before .before .before .before .before .before .before .before .before .before .before .before .before .before .args .y) m)) (c .before .before .before .before .before .before .before .before .before .before .before .before .before .least .ensures);
+      in-high = c .before .before .before .before .before .before .before .before .before .before .lower .ensures;
+      in-middle = c .before .before .before .before .before .before .lower2 .ensures;
+      in-low = c .before .before .lower3 .ensures;
+    }
+
+pub enter-spec : {M : Type 1} → statement M
+enter-spec =
+    tie.close
+    (tie.spec
+    least-requires
+    less-requires
+    lower-requires
+    lower-requires-2
+    lower-requires-3
+    same-length
+    same-length-2
+    same-length-3
+    returns)
