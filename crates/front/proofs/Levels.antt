@@ -1,5 +1,5 @@
 -- Laws of the least y: one key more, two tests together, what it tells; and of the loop that enters a y in a level.
-use Prim.Native.Nat.{ℕ, _+_, _/_, _*_, _%_, _≤_, _<_, min}
+use Prim.Native.Nat.{ℕ, _+_, _-_, _/_, _*_, _%_, _≤_, _<_, min}
 use mathlib.Core.Path.{_≡_, refl, sym, ap, subst, _∙_}
 use mathlib.Core.Bool.{Bool, true, false, not}
 use mathlib.Core.Logic.{_⊎_, inl, inr}
@@ -7,14 +7,15 @@ use mathlib.Core.List.{List, _∷_, _++_, []}
 use native.Mathlib.Numerals.{add-one}
 use native.Mathlib.Omega.{arith}
 use lib.Dec.{leb, ltb}
-use lib.ListN.{length, getD, set, take, drop, replicate, length-set, length-append, length-drop, length-replicate, getD-replicate}
-use lib.Seq.{getD-set-same, getD-set-other, take-suc, length-take-le}
+use lib.ListN.{length, getD, set, take, drop, replicate, length-set, length-append, length-drop, length-replicate, getD-replicate, List·getD-append}
+use lib.Seq.{getD-set-same, getD-set-other, take-suc, length-take-le, getD-append-add}
 use borrow.Author.Tests.{lt-ltb, le-ltb, le-leb, lt-leb}
 use Rattle.slices.specs.Choices.{both, either, pick}
+use Rattle.slices.proofs.Spread.{zeros-at}
 use Rattle.hypervolume.specs.Cells.{holds}
 use Rattle.hypervolume.proofs.Tests.{by-order, holds-le-one}
 use Rattle.front.specs.Keys.{InOrder, some, under, alone}
-use Rattle.front.specs.Levels.{least-of, y-of, behind, Lowered, Entered, Level, least-before, Empty}
+use Rattle.front.specs.Levels.{least-of, y-of, behind, Bounded, Extra, Lowered, Entered, Level, least-before, Empty}
 
 module _ (y : ℕ → ℕ) where
   -- One key more, at the end.
@@ -122,6 +123,22 @@ pub counts-alone : (points : List (List ℕ)) (taken : List ℕ) (k : ℕ) → y
 unfolding under
 counts-alone points taken k s = least-tells (y-of points) (λ b. ltb (b % 512) (k % 512)) (y-of points k) s taken
 
+pub least-bound : (test : ℕ → Bool) (y : ℕ → ℕ) (keys : List ℕ) → least-of test y keys ≤ 2097152
+unfolding least-of pick
+least-bound test y [] = omega arith
+least-bound test y (k ∷ keys) = go (test k) (least-bound test y keys)
+  where
+    go : (t : Bool) → least-of test y keys ≤ 2097152 → pick t (min (y k) (least-of test y keys)) (least-of test y keys) ≤ 2097152
+    go true l = omega (arith, l)
+    go false l = l
+
+pub level-bounded : {place : ℕ → ℕ} {points : List (List ℕ)} {taken level : List ℕ} → Level place points taken level → Bounded level
+level-bounded {place} {points} {taken} h v l =
+    rw (h .each v l) (least-bound (λ k. behind (place k) v) (y-of points) taken)
+
+pub extra-bound : {table : List ℕ} → Extra table → (j : ℕ) → getD table j 0 ≤ 2097152
+extra-bound h j = by-order 8 j (λ a. omega (arith, h .further j a)) (λ a. omega (arith, h .up-to j a))
+
 -- The loop that enters a y: the first n of the eight are done.
 pub record Lowering (old : List ℕ) (at y n : ℕ) (now : List ℕ) : Type 0 where
   pub part : n ≤ 8
@@ -142,22 +159,29 @@ lowering-none old at y =
       ahead = λ v l. refl;
     }
 
-pub lowering-more : {old : List ℕ} {at y n : ℕ} {now : List ℕ} (v m : ℕ) → Lowering old at y n now → n < 8 → v ≡ at / 8 * 8 + n → v < length old
-    → m ≡ pick (ltb at v) (min y (getD now v 0)) (getD now v 0) → Lowering old at y (n + 1) (set now v m)
-lowering-more {old} {at} {y} {n} {now} v m h l e s f =
+is-behind : (at v n o : ℕ) → at < v → v / 8 * 8 ≤ at → pick (behind at v) n o ≡ n
+unfolding pick
+is-behind at v n o l k = rw (behind-on at v l k)
+
+pub lowering-more : {old : List ℕ} {at y n : ℕ} {now table : List ℕ} (v m : ℕ) → Bounded old → Extra table → Lowering old at y n now → n < 8 → v ≡ at / 8 * 8 + n → v < length old
+    → m ≡ min (y + getD table (7 - at % 8 + n) 0) (getD now v 0) → Lowering old at y (n + 1) (set now v m)
+lowering-more {old} {at} {y} {n} {now} {table} v m b p h l e s f =
     record {
       part = omega arith;
       long = length-set now v m ∙ h .long;
       done = λ u a.
           by-order v u
           (λ b. let q : u ≡ v = omega arith in
-          rw q (getD-set-same now v m 0 (omega (arith, h .long)) ∙ f ∙ ap (λ k. pick (ltb at v) (min y k) k) (h .ahead v (omega arith)) ∙ here))
+          rw q (getD-set-same now v m 0 (omega (arith, h .long)) ∙ f ∙ ap (min (y + getD table (7 - at % 8 + n) 0)) (h .ahead v (omega arith)) ∙ here))
           (λ b. getD-set-other now v u m 0 (λ q. omega arith) ∙ h .done u (omega arith));
       ahead = λ u a. getD-set-other now v u m 0 (λ q. omega arith) ∙ h .ahead u (omega arith);
     }
   where
-    here : pick (ltb at v) (min y (getD old v 0)) (getD old v 0) ≡ pick (behind at v) (min y (getD old v 0)) (getD old v 0)
-    here = unfold behind both in rw (le-leb (v / 8 * 8) at (omega arith))
+    here : min (y + getD table (7 - at % 8 + n) 0) (getD old v 0) ≡ pick (behind at v) (min y (getD old v 0)) (getD old v 0)
+    here =
+        by-order v at
+        (λ a. (let q : min (y + getD table (7 - at % 8 + n) 0) (getD old v 0) ≡ getD old v 0 = omega (arith, p .up-to (7 - at % 8 + n) (omega arith), b v s) in q) ∙ sym (not-behind at v (min y (getD old v 0)) (getD old v 0) (inl a)))
+        (λ a. (let q : min (y + getD table (7 - at % 8 + n) 0) (getD old v 0) ≡ min y (getD old v 0) = omega (arith, p .further (7 - at % 8 + n) (omega arith)) in q) ∙ sym (is-behind at v (min y (getD old v 0)) (getD old v 0) a (omega arith)))
 
 pub lowering-end : {old : List ℕ} {at y n : ℕ} {now : List ℕ} → Lowering old at y n now → 8 ≤ n → Lowered old at y now
 lowering-end {old} {at} {y} {n} {now} h l =
@@ -236,6 +260,16 @@ counting-end {points} {keys} {i} h l = h .so-far ∙ ap (alone points keys) (let
 -- Levels as they are at first.
 pub empty-level : (n : ℕ) → Empty n (replicate n 2097152)
 empty-level n = record { long = length-replicate n 2097152; each = λ v l. getD-replicate n v 2097152 0 l }
+
+-- What is put on a y, as it is written out.
+pub extra-table : Extra (replicate 8 2097152 ++ replicate 7 0)
+extra-table =
+    record {
+      long = refl;
+      up-to = λ j l. List·getD-append (replicate 8 2097152) (replicate 7 0) 0 j l ∙ getD-replicate 8 j 2097152 0 l;
+      further = λ j l. subst (λ i. _≡_ {A = ℕ} (getD (replicate 8 2097152 ++ replicate 7 0) i 0) 0) (let e : 8 + (j - 8) ≡ j = omega (arith, l) in e)
+          (getD-append-add (replicate 8 2097152) (replicate 7 0) (j - 8) 0 ∙ zeros-at 7 (j - 8));
+    }
 
 -- After v turns of `empty` v places are empty.
 pub record Emptying (before : List ℕ) (v : ℕ) (level : List ℕ) : Type 0 where

@@ -23,6 +23,17 @@ y-of points k = y-at points (k % 512)
 unfoldable pub behind : ℕ → ℕ → Bool
 behind at v = both (leb (v / 8 * 8) at) (ltb at v)
 
+-- All numbers of a level, a least y each.
+abbrev pub Bounded : List ℕ → Type 0
+Bounded level = (v : ℕ) → v < length level → getD level v 0 ≤ 2097152
+
+-- What is put on a y: so much that it counts for nothing, or nothing. Of these fifteen the eight from place 7 - n on are for the
+-- eight places of a level among which the y has place n.
+pub record Extra (table : List ℕ) : Type 0 where
+  pub long : length table ≡ 15
+  pub up-to : (j : ℕ) → j < 8 → getD table j 0 ≡ 2097152
+  pub further : (j : ℕ) → 8 ≤ j → getD table j 0 ≡ 0
+
 -- A level with one y entered.
 pub record Lowered (old : List ℕ) (at y : ℕ) (new : List ℕ) : Type 0 where
   pub long : length new ≡ length old

@@ -15,7 +15,7 @@ ghost use Rattle.hypervolume.specs.Cells.{holds};
 ghost use Rattle.hypervolume.specs.Front.{front};
 ghost use Rattle.hypervolume.specs.Sorted.{Small};
 ghost use Rattle.front.specs.Keys.{InOrder, standing, Sieved, alone};
-ghost use Rattle.front.specs.Levels.{Lowered, Entered, Empty, Placed};
+ghost use Rattle.front.specs.Levels.{Bounded, Extra, Lowered, Entered, Empty, Placed};
 
 // Of two numbers the smaller.
 fn smaller(a: u32, b: u32) -> u32
@@ -31,22 +31,25 @@ fn less(y: u32, least: u32) -> u64
     (least as u64 + 4294967295 - y as u64) / 4294967296
 }
 
-// One number of a level, where the point stands behind.
-fn lowered(old: u32, y: u32, behind: bool) -> u32
-    ensures { λ r. ⌜ r ≡ pick behind (min y old) old ⌝ }
+// One number of a level, with so much put on the y.
+fn lowered(old: u32, y: u32, extra: u32) -> u32
+    requires { ⌜ (y ≤ 2097152) × (extra ≤ 2097152) ⌝ }
+    ensures { λ r. ⌜ r ≡ min (y + extra) old ⌝ }
 {
-    if behind { smaller(y, old) } else { old }
+    smaller(y + extra, old)
 }
 
-// A point's y, entered at a place of a level: it counts for the places behind it among the same eight.
-fn lower(level: &mut [u32], at: usize, y: u32)
-    requires { ⌜ (at < length (now level)) × (length (now level) % 8 ≡ 0) ⌝ }
+// A point's y, entered at a place of a level: it counts for the places behind it among the same eight. For the others as much is
+// put on it as makes it count for nothing; a test for each place would take twice as long.
+fn lower(level: &mut [u32], at: usize, y: u32, extra: &[u32])
+    requires { ⌜ (at < length (now level)) × (length (now level) % 8 ≡ 0) × Bounded (now level) × (y ≤ 2097152) × Extra (now extra) ⌝ }
     ensures { λ _. ⌜ Lowered (now (level .entry)) at y (now (level .exit)) ⌝ }
 {
     let start = at / 8 * 8;
+    let from = 7 - at % 8;
     for k in 0..8usize {
         let v = start + k;
-        level[v] = lowered(level[v], y, at < v);
+        level[v] = lowered(level[v], y, extra[from + k]);
     }
 }
 
@@ -60,14 +63,21 @@ fn least(high: &[u32], middle: &[u32], low: &[u32], g: usize) -> u32
 
 // One point more, whose equals begin at place g: 1 where none taken before stands earlier and is at most it on y, else 0. Its y
 // is entered in the levels.
-fn enter(high: &mut [u32], middle: &mut [u32], low: &mut [u32], g: usize, y: u32) -> u64
-    requires { ⌜ (length (now high) ≡ 8) × (length (now middle) ≡ 64) × (length (now low) ≡ 512) × (g < 512) ⌝ }
+fn enter(
+    high: &mut [u32],
+    middle: &mut [u32],
+    low: &mut [u32],
+    g: usize,
+    y: u32,
+    extra: &[u32],
+) -> u64
+    requires { ⌜ (length (now high) ≡ 8) × (length (now middle) ≡ 64) × (length (now low) ≡ 512) × (g < 512) × Bounded (now high) × Bounded (now middle) × Bounded (now low) × (y ≤ 2097152) × Extra (now extra) ⌝ }
     ensures { λ r. ⌜ Entered (now (high .entry)) (now (middle .entry)) (now (low .entry)) g y r (now (high .exit)) (now (middle .exit)) (now (low .exit)) ⌝ }
 {
     let alone = less(y, least(high, middle, low, g));
-    lower(high, g / 64, y);
-    lower(middle, g / 8, y);
-    lower(low, g, y);
+    lower(high, g / 64, y, extra);
+    lower(middle, g / 8, y, extra);
+    lower(low, g, y, extra);
     alone
 }
 
@@ -79,8 +89,9 @@ fn count(
     high: &mut [u32],
     middle: &mut [u32],
     low: &mut [u32],
+    extra: &[u32],
 ) -> u64
-    requires { ⌜ InOrder (now points) × Placed (now points) (now keys) × Empty 8 (now high) × Empty 64 (now middle) × Empty 512 (now low) ⌝ }
+    requires { ⌜ InOrder (now points) × Placed (now points) (now keys) × Empty 8 (now high) × Empty 64 (now middle) × Empty 512 (now low) × Extra (now extra) ⌝ }
     ensures { λ r. ⌜ r ≡ alone (now (points .entry)) (now (keys .entry)) (length (now (keys .entry))) ⌝ }
 {
     let mut unbeaten: u64 = 0;
@@ -88,7 +99,7 @@ fn count(
     while i < keys.len() {
         let g = (keys[i] % 512) as usize;
         let y = point_at(points, g).at[1];
-        unbeaten = unbeaten + enter(high, middle, low, g, y);
+        unbeaten = unbeaten + enter(high, middle, low, g, y, extra);
         i += 1;
     }
     unbeaten
@@ -194,7 +205,24 @@ fn by_keys(points: &[[u32; 3]], keys: &mut [u32], ascending: &mut [u32], m: usiz
     empty(keys);
     let mut high = [2097152u32; 8];
     let mut middle = [2097152u32; 64];
-    count(points, ascending, &mut high, &mut middle, keys)
+    let extra = [
+        2097152u32,
+        2097152,
+        2097152,
+        2097152,
+        2097152,
+        2097152,
+        2097152,
+        2097152,
+        0,
+        0,
+        0,
+        0,
+        0,
+        0,
+        0,
+    ];
+    count(points, ascending, &mut high, &mut middle, keys, &extra)
 }
 
 // How many of the points are on the front.

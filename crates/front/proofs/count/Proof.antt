@@ -1,21 +1,21 @@
 -- `count` meets its contract: after i turns i keys are entered.
-use Prim.Native.Nat.{_-_}
+use Prim.Native.Nat.{_-_, _%_}
 use mathlib.Core.Path.{refl, ap}
 use native.Mathlib.Omega.{arith}
 use lib.ListN.{length, getD}
 use borrow.Author.Needs.{needs}
-use Rattle.front.proofs.Levels.{Counting, counting-none, counting-more, entered-one, counting-end}
+use Rattle.front.proofs.Levels.{Counting, level-bounded, counting-none, counting-more, entered-one, counting-end}
 use Rattle.front.proofs.count.Statement.{statement}
 use Rattle.front.proofs.count.Tie as tie
 
 abbrev Inv-loop : tie.InvT-loop
-Inv-loop points keys high₀ middle₀ low₀ unbeaten₀ i₀ high middle low unbeaten i = Counting points keys i high middle low unbeaten
+Inv-loop points keys high₀ middle₀ low₀ extra unbeaten₀ i₀ high middle low unbeaten i = Counting points keys i high middle low unbeaten
 
 abbrev μ-loop : tie.MeasureT-loop
-μ-loop points keys high₀ middle₀ low₀ unbeaten₀ i₀ high middle low unbeaten i = length keys - i
+μ-loop points keys high₀ middle₀ low₀ extra unbeaten₀ i₀ high middle low unbeaten i = length keys - i
 
 loop-holds : tie.Need-loop-holds Inv-loop μ-loop
-loop-holds c = counting-none _ _ _ _ _ (c .before .before .before .before .pre .2) (c .before .before .before .before .pre .3) (c .before .before .before .before .pre .4)
+loop-holds c = counting-none _ _ _ _ _ (c .before .before .before .before .before .pre .2) (c .before .before .before .before .before .pre .3) (c .before .before .before .before .before .pre .4)
 
 mul-g : tie.Need-mul-g Inv-loop μ-loop
 mul-g c = search needs
@@ -27,17 +27,18 @@ cast-g : tie.Need-cast-g Inv-loop μ-loop
 cast-g c = search needs
 
 point-at-requires : tie.Need-point-at-requires Inv-loop μ-loop
-point-at-requires c κs = c .before .before .before .before .before .before .before .pre .1 .each (c .before .before .loop .i) (c .before .loop-test .taken)
+point-at-requires c κs = c .before .before .before .before .before .before .before .before .pre .1 .each (c .before .before .loop .i) (c .before .loop-test .taken)
 
 element-copy-out-y : tie.Need-element-copy-out-y Inv-loop μ-loop
 element-copy-out-y c = search needs
 
 enter-requires : tie.Need-enter-requires Inv-loop μ-loop
-enter-requires c κs = search needs
+enter-requires c κs =
+    (c .before .before .before .before .before .before .before .loop .inv .high-long, c .before .before .before .before .before .before .before .loop .inv .middle-long, c .before .before .before .before .before .before .before .loop .inv .low-long, search needs, level-bounded (c .before .before .before .before .before .before .before .loop .inv .in-high), level-bounded (c .before .before .before .before .before .before .before .loop .inv .in-middle), level-bounded (c .before .before .before .before .before .before .before .loop .inv .in-low), omega (arith, ap (λ p. getD p 1 0) (c .before .before .before .before .point-at .ensures), c .before .before .before .before .before .before .before .before .before .before .before .before .before .pre .0 .small (getD (c .before .before .before .before .before .before .before .before .before .before .before .before .before .args .keys .now) (c .before .before .before .before .before .before .before .loop .i) 0 % 512) 1), c .before .before .before .before .before .before .before .before .before .before .before .before .before .pre .5)
 
 add-unbeaten : tie.Need-add-unbeaten Inv-loop μ-loop
 add-unbeaten c =
-    omega (arith, c .before .before .before .before .before .before .before .before .before .before .before .before .before .before .loop .inv .few, c .before .before .before .before .before .before .before .before .before .before .before .before .before .before .loop .inv .part, c .before .before .before .before .before .before .before .before .before .before .before .before .before .before .before .before .before .before .before .pre .1 .few, entered-one (c .before .before .before .before .before .before .enter .ensures))
+    omega (arith, c .before .before .before .before .before .before .before .before .before .before .before .before .before .before .loop .inv .few, c .before .before .before .before .before .before .before .before .before .before .before .before .before .before .loop .inv .part, c .before .before .before .before .before .before .before .before .before .before .before .before .before .before .before .before .before .before .before .before .pre .1 .few, entered-one (c .before .before .before .before .before .before .enter .ensures))
 
 add-i : tie.Need-add-i Inv-loop μ-loop
 add-i c = search needs
@@ -47,7 +48,7 @@ loop-less c = omega arith
 
 loop-again : tie.Need-loop-again Inv-loop μ-loop
 loop-again c =
-    counting-more _ _ (c .before .before .before .before .before .before .before .before .before .before .before .before .before .before .before .before .before .before .before .pre .0) (c .before .before .before .before .before .before .before .before .before .before .before .before .before .before .loop .inv) (c .before .before .before .before .before .before .before .before .before .before .before .before .before .loop-test .taken) refl (ap (λ p. getD p 1 0) (c .before .before .before .before .before .before .before .before .before .before .before .point-at .ensures)) (c .before .before .before .before .before .before .enter .ensures)
+    counting-more _ _ (c .before .before .before .before .before .before .before .before .before .before .before .before .before .before .before .before .before .before .before .before .pre .0) (c .before .before .before .before .before .before .before .before .before .before .before .before .before .before .loop .inv) (c .before .before .before .before .before .before .before .before .before .before .before .before .before .loop-test .taken) refl (ap (λ p. getD p 1 0) (c .before .before .before .before .before .before .before .before .before .before .before .point-at .ensures)) (c .before .before .before .before .before .before .enter .ensures)
 
 same-length : tie.Need-same-length Inv-loop μ-loop
 same-length c = search needs

@@ -13,13 +13,13 @@ less-requires : tie.Need-less-requires
 less-requires c κs = search needs
 
 lower-requires : tie.Need-lower-requires
-lower-requires c κs = search needs
+lower-requires c κs = (search needs, search needs, c .before .before .before .before .before .before .before .before .before .before .pre .4, c .before .before .before .before .before .before .before .before .before .before .pre .7, c .before .before .before .before .before .before .before .before .before .before .pre .8)
 
 lower-requires-2 : tie.Need-lower-requires-2
-lower-requires-2 c κs = search needs
+lower-requires-2 c κs = (search needs, search needs, c .before .before .before .before .before .before .before .before .before .before .before .before .before .before .pre .5, c .before .before .before .before .before .before .before .before .before .before .before .before .before .before .pre .7, c .before .before .before .before .before .before .before .before .before .before .before .before .before .before .pre .8)
 
 lower-requires-3 : tie.Need-lower-requires-3
-lower-requires-3 c κs = search needs
+lower-requires-3 c κs = (search needs, search needs, c .before .before .before .before .before .before .before .before .before .before .before .before .before .before .before .before .before .before .pre .6, c .before .before .before .before .before .before .before .before .before .before .before .before .before .before .before .before .before .before .pre .7, c .before .before .before .before .before .before .before .before .before .before .before .before .before .before .before .before .before .before .pre .8)
 
 same-length : tie.Need-same-length
 same-length c = search needs
@@ -33,7 +33,7 @@ same-length-3 c = search needs
 returns : tie.Need-returns
 returns c =
     record {
-      told = c .before .before .before .before .before .before .before .before .before .before .before .before .less .ensures ∙ ap (λ m. holds (ltb (c .before .before .before .before .before .before .before .before .before .before .before .before .before .before .before .before .before .before .before .before .args .y) m)) (c .before .before .before .before .before .before .before .before .before .before .before .before .before .least .ensures);
+      told = c .before .before .before .before .before .before .before .before .before .before .before .before .less .ensures ∙ ap (λ m. holds (ltb (c .before .before .before .before .before .before .before .before .before .before .before .before .before .before .before .before .before .before .before .before .before .args .y) m)) (c .before .before .before .before .before .before .before .before .before .before .before .before .before .least .ensures);
       in-high = c .before .before .before .before .before .before .before .before .before .before .lower .ensures;
       in-middle = c .before .before .before .before .before .before .lower2 .ensures;
       in-low = c .before .before .lower3 .ensures;
