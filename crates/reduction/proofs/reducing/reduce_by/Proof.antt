@@ -1,4 +1,4 @@
--- after the drops.
+-- `reduce_by` meets its contract: the columns are loaded, the drops made and the front counted in them, and all is written back.
 use mathlib.Core.Path.{refl, sym}
 use native.Mathlib.Omega.{arith}
 use lib.Seq.{length-take-le}
@@ -6,7 +6,6 @@ use Rattle.calls.proofs.Known.{known}
 use Rattle.words.specs.Layout.{read}
 use Rattle.calls.specs.Calls.{after-drops}
 use Rattle.reduction.proofs.reducing.Storing.{loaded, droppable-words, left-in-order, stores, storing}
--- after the drops.
 use borrow.Author.Needs.{needs}
 use Rattle.reduction.proofs.reducing.reduce_by.Statement.{statement}
 use Rattle.reduction.proofs.reducing.reduce_by.Tie as tie
