@@ -5,7 +5,8 @@
 //! cell (i, j, k) below the reference where x ≤ i, y ≤ j and z ≤ k: none where it is at the
 //! reference or beyond it on any axis. The *total* is the number of cells that some trial
 //! dominates, a *contribution* the number that this trial dominates and no other does. Equal trials
-//! are several trials.
+//! are several trials. A trial is on the *front* where no other trial is at most equal on all axes
+//! and smaller on at least one.
 //!
 //! ```
 //! use trial_archive::{Archive, Refusal};
@@ -38,9 +39,9 @@
 //! # The archive's words
 //!
 //! Word 0: count of trials. 1: capacity, 1 to 512. 2, 3, 4: the reference, each number 1 to
-//! 1,048,576. 5: total. 6 and 7: zero. From word 8 come records of five words: trial number (1 to
-//! 9,999,999), x, y, z (each 0 to 1,048,576), contribution, in ascending order of z, then y, then
-//! x, then trial number. Words of unused records are zero.
+//! 1,048,576. 5: total. 6: how many trials are on the front. 7: zero. From word 8 come records of
+//! five words: trial number (1 to 9,999,999), x, y, z (each 0 to 1,048,576), contribution, in
+//! ascending order of z, then y, then x, then trial number. Words of unused records are zero.
 
 mod archive;
 mod refusal;
