@@ -16,7 +16,7 @@ use Rattle.hypervolume.proofs.Counting.{SameCover, total-same, contribution-sam
 use Rattle.words.specs.Archive.{Trial, Row, Shape, Archive, point, trials, points}
 use Rattle.words.specs.Format.{held, distinct}
 use Rattle.calls.specs.Calls.{held-trials, held-points, reference-of, box-of, empty, place, insert-gain, joint-with, lowered, inserted, falls-below, insert-overruns, row-of, others, without, removal-loss, raised, removed, exceeds, remove-overruns, rows-counted, audited}
-use Rattle.calls.specs.Counted.{IsCounted, CountedButFront, counted-row, counted}
+use Rattle.calls.specs.Counted.{IsCounted, counted-row, counted}
 use Rattle.calls.proofs.Members.{tested-each, each-tested, map-on, map-map, map-id, trials-map, place-map, place-member, place-cover, others-member, Split, split}
 
 -- A list of trials with one more, in whatever place: what the counts of the two have to do with each other.
@@ -54,12 +54,9 @@ contribution-inserted a t q m =
     contribution-with (reference-of a) (held-points a) (held-points (inserted a t)) (point t) (inserted-cover a t)
     (point (q .trial)) (row-among (a .rows) q m)
 
-pub but-front : {a : Archive} → IsCounted a → CountedButFront a
-but-front h = record { sum = h .sum; rows = h .rows }
-
-pub inserted-anew : (a : Archive) (t : Trial) → CountedButFront a → IsCounted (inserted a t)
+pub inserted-counted : (a : Archive) (t : Trial) → IsCounted a → IsCounted (inserted a t)
 unfolding inserted insert-gain lowered points
-inserted-anew a t h =
+inserted-counted a t h =
     record {
       sum =
           ap (λ k. k + insert-gain a t) (h .sum)
@@ -79,9 +76,6 @@ inserted-anew a t h =
         → q .kept ≡ contribution (reference-of a) (held-points (inserted a t)) (point (q .trial))
     go q (inl e) = rw e (sym (contribution-with-new (reference-of a) (held-points a) (held-points (inserted a t)) (point t) (inserted-cover a t)))
     go q (inr m) = moved q (Memᴰ·of-map (lowered a t) (a .rows) m)
-
-pub inserted-counted : (a : Archive) (t : Trial) → IsCounted a → IsCounted (inserted a t)
-inserted-counted a t h = inserted-anew a t (but-front h)
 
 -- The trials after a removal.
 pub removed-trials : (a : Archive) (n : ℕ) → held-trials (removed a n) ≡ held-trials (without a n)
@@ -109,9 +103,9 @@ loss-kept a n h p =
     h .rows (row-of n (a .rows)) (p .member)
     ∙ contribution-with-new (reference-of a) (held-points (without a n)) (held-points a) (point (row-of n (a .rows) .trial)) (p .covers)
 
-pub removed-anew : (a : Archive) (n : ℕ) → CountedButFront a → Split n (a .rows) → IsCounted (removed a n)
+pub removed-counted : (a : Archive) (n : ℕ) → IsCounted a → Split n (a .rows) → IsCounted (removed a n)
 unfolding removed raised
-removed-anew a n h p =
+removed-counted a n h p =
     record {
       sum =
           let was = h .sum in
@@ -130,9 +124,6 @@ removed-anew a n h p =
         (let was = h .rows (w .0) (others-member n (a .rows) (w .0) (w .1)) in
         let now = contribution-removed a n p (w .0) (w .1) in
         omega arith)
-
-pub removed-counted : (a : Archive) (n : ℕ) → IsCounted a → Split n (a .rows) → IsCounted (removed a n)
-removed-counted a n h p = removed-anew a n (but-front h) p
 
 -- "The audit answers yes exactly when the total and all contributions equal their counts", and the front.
 unfoldable RowCounted : Archive → Row → Type 0

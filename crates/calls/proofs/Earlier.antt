@@ -14,14 +14,14 @@ use Rattle.words.specs.Layout.{layout, read, word, behind}
 use Rattle.words.specs.Format.{guard, archive-rows}
 use Rattle.words.proofs.Reading.{read-layout}
 use Rattle.words.proofs.Passed.{Sound, sound-passes}
-use Rattle.calls.specs.Calls.{held-points, inserted, removed, audited, reduce-rows}
+use Rattle.calls.specs.Calls.{held-points, renewed, insert-gain, joint-with, lowered, inserted, without, removal-loss, raised, removed, audited, reduce-rows}
 use Rattle.calls.specs.Counted.{IsCounted}
 use Rattle.calls.specs.Lent.{answer, insert, remove, reduce, audit}
 use Rattle.calls.specs.Earlier.{KeptFromBefore, EarlierArchives}
 use Rattle.calls.proofs.Members.{split}
 use Rattle.calls.proofs.Known.{known, count-rows}
 use Rattle.calls.proofs.Answers.{rows-passed}
-use Rattle.calls.proofs.Counted.{inserted-anew, removed-anew, audited-counted, counted-audited}
+use Rattle.calls.proofs.Counted.{inserted-counted, removed-counted, audited-counted, counted-audited}
 use Rattle.calls.proofs.Sound.{insert-passed, inserted-sound, remove-passed, removed-sound}
 use Rattle.calls.proofs.Lent.{insert-done, remove-done, leaves-refusal}
 
@@ -34,6 +34,15 @@ front-held (r ∷ rows) l =
   where
     three : (q : List ℕ) → (t : Trial) × List·Memᴰ t (trials (r ∷ rows)) × (point t ≡ q) → length q ≡ 3
     three q w = ap length (sym (w .2))
+
+-- Insertion and removal do not look at the front.
+inserted-front : (a : Archive) (t : Trial) → inserted (renewed (a .shape) (a .sum) (a .rows)) t ≡ inserted a t
+unfolding inserted insert-gain lowered joint-with
+inserted-front a t = refl
+
+removed-front : (a : Archive) (n : ℕ) → removed (renewed (a .shape) (a .sum) (a .rows)) n ≡ removed a n
+unfolding removed removal-loss insert-gain without raised joint-with
+removed-front a n = refl
 
 audit-is : (w : List ℕ) (b : Bool) → archive-rows w 0 ≡ 0 → audited (read w) ≡ b → audit w ≡ record { refusal = 0; value = holds b }
 unfolding audit answer
@@ -72,7 +81,7 @@ module _ (w : List ℕ) (h : KeptFromBefore w) where
   after-insertion t e =
       let done = insert-done w t e in
       says-yes (insert w t .words) (inserted (read w) t) (done .words)
-      (inserted-sound (read w) t (known w (h .passes) .sound) (insert-passed (read w) t (done .rows))) (inserted-anew (read w) t (h .counted))
+      (inserted-sound (read w) t (known w (h .passes) .sound) (insert-passed (read w) t (done .rows))) (rw (← inserted-front (read w) t) (inserted-counted (renewed (read w .shape) (read w .sum) (read w .rows)) t (h .counted)))
 
   after-removal : (n : ℕ) → remove w n .refusal ≡ 0 → audit (remove w n .words) ≡ record { refusal = 0; value = 1 }
   after-removal n e =
@@ -80,7 +89,7 @@ module _ (w : List ℕ) (h : KeptFromBefore w) where
       let sound = known w (h .passes) .sound in
       let passed = remove-passed (read w) n (done .rows) in
       says-yes (remove w n .words) (removed (read w) n) (done .words)
-      (removed-sound (read w) n sound passed) (removed-anew (read w) n (h .counted) (split n (read w .rows) (passed .known) (sound .apart)))
+      (removed-sound (read w) n sound passed) (rw (← removed-front (read w) n) (removed-counted (renewed (read w .shape) (read w .sum) (read w .rows)) n (h .counted) (split n (read w .rows) (passed .known) (sound .apart))))
 
   without-trials : word w 0 ≡ 0 → audit w ≡ record { refusal = 0; value = 1 }
   unfolding holds

@@ -15,12 +15,6 @@ pub record IsCounted (a : Archive) : Type 0 where
   pub rows :
       (r : Row) → List·Memᴰ r (a .rows) → r .kept ≡ contribution (reference-of a) (held-points a) (point (r .trial))
 
--- All but the front: an archive "kept from before" document 02, W-209.
-pub record CountedButFront (a : Archive) : Type 0 where
-  pub sum : a .sum ≡ total (reference-of a) (held-points a)
-  pub rows :
-      (r : Row) → List·Memᴰ r (a .rows) → r .kept ≡ contribution (reference-of a) (held-points a) (point (r .trial))
-
 -- A trial with its contribution, counted among these trials.
 unfoldable pub counted-row : Shape → List Trial → Trial → Row
 counted-row s ts t = record { trial = t; kept = contribution (reference s) (points ts) (point t) }

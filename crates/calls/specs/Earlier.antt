@@ -7,14 +7,15 @@ use lib.ListN.{length}
 use Rattle.words.specs.Archive.{Trial}
 use Rattle.words.specs.Layout.{read, word}
 use Rattle.words.specs.Format.{archive-rows}
-use Rattle.calls.specs.Counted.{CountedButFront}
+use Rattle.calls.specs.Calls.{renewed}
+use Rattle.calls.specs.Counted.{IsCounted}
 use Rattle.calls.specs.Lent.{insert, remove, reduce, audit}
 
--- Words with word 6 zero and all else counted, that rows 1 to 3 let pass.
+-- Words with word 6 zero and all else counted, that rows 1 to 3 let pass: with the front counted anew all is counted.
 pub record KeptFromBefore (w : List ℕ) : Type 0 where
   pub passes : archive-rows w 0 ≡ 0
   pub no-front : word w 6 ≡ 0
-  pub counted : CountedButFront (read w)
+  pub counted : IsCounted (renewed (read w .shape) (read w .sum) (read w .rows))
 
 pub record EarlierArchives : Type 0 where
   -- With a trial: the audit says no, and a reduction is turned down by row 13, also one that would drop nothing.

@@ -4,9 +4,10 @@ use hypervolume::Point;
 use hypervolume::larger;
 use hypervolume::point_at;
 use hypervolume::put_point;
+use hypervolume::smaller;
 ghost use mathlib.Core.Path.{_≡_};
 ghost use mathlib.Core.Bool.{true};
-ghost use Prim.Native.Nat.{_≤_, _<_, min};
+ghost use Prim.Native.Nat.{_≤_, _<_};
 ghost use lib.ListN.{length, getD};
 ghost use Rattle.corners.specs.Limits.{offer, Offered, Limits, Collecting, Collected};
 
@@ -14,13 +15,6 @@ ghost use Rattle.corners.specs.Limits.{offer, Offered, Limits, Collectin
 pub struct Offers {
     pub least: [u32; 3],
     pub second: [u32; 3],
-}
-
-// The smaller of two coordinates.
-fn smaller(x: u32, y: u32) -> u32
-    ensures { λ r. ⌜ r ≡ min x y ⌝ }
-{
-    if x < y { x } else { y }
 }
 
 // What t offers as the limit on an axis: its coordinate, where it is at most u on all others. 1,048,576 limits nothing.

@@ -4,32 +4,20 @@
 // at most on y is told by the least y over the places before, kept in three levels of eight. Nothing is searched, and hardly
 // a branch depends on how points compare.
 use hypervolume::Point;
+use hypervolume::at_most;
 use hypervolume::point_at;
+use hypervolume::smaller;
 use order::order;
+use slices::both;
 ghost use mathlib.Core.Path.{_≡_};
 ghost use Prim.Native.Nat.{_+_, _*_, _/_, _%_, _≤_, _<_, min};
 ghost use lib.Dec.{leb, ltb, eqb};
 ghost use lib.ListN.{length, take, getD};
 ghost use Rattle.slices.specs.Choices.{both, pick};
-ghost use Rattle.hypervolume.specs.Cells.{holds};
 ghost use Rattle.hypervolume.specs.Front.{front};
 ghost use Rattle.hypervolume.specs.Sorted.{Small};
 ghost use Rattle.front.specs.Keys.{InOrder, standing, Sieved, alone};
 ghost use Rattle.front.specs.Levels.{Bounded, Extra, Lowered, Entered, Empty, Placed};
-
-// Of two numbers the smaller.
-fn smaller(a: u32, b: u32) -> u32
-    ensures { λ r. ⌜ r ≡ min a b ⌝ }
-{
-    if a < b { a } else { b }
-}
-
-// 1 where y is less than the other number, else 0. By arithmetic: a choice would become a branch that nothing foretells.
-fn less(y: u32, least: u32) -> u64
-    ensures { λ r. ⌜ r ≡ holds (ltb y least) ⌝ }
-{
-    (least as u64 + 4294967295 - y as u64) / 4294967296
-}
 
 // One number of a level, with so much put on the y.
 fn lowered(old: u32, y: u32, extra: u32) -> u32
@@ -74,7 +62,7 @@ fn enter(
     requires { ⌜ (length (now high) ≡ 8) × (length (now middle) ≡ 64) × (length (now low) ≡ 512) × (g < 512) × Bounded (now high) × Bounded (now middle) × Bounded (now low) × (y ≤ 2097152) × Extra (now extra) ⌝ }
     ensures { λ r. ⌜ Entered (now (high .entry)) (now (middle .entry)) (now (low .entry)) g y r (now (high .exit)) (now (middle .exit)) (now (low .exit)) ⌝ }
 {
-    let alone = less(y, least(high, middle, low, g));
+    let alone = at_most(y + 1, least(high, middle, low, g)) as u64;
     lower(high, g / 64, y, extra);
     lower(middle, g / 8, y, extra);
     lower(low, g, y, extra);
@@ -132,13 +120,6 @@ fn beaten(best: Best, x: u32, y: u32, first: usize) -> bool
     ensures { λ r. ⌜ r ≡ both (ltb (best .first) first) (both (leb (best .x) x) (leb (best .y) y)) ⌝ }
 {
     both(best.first < first, both(best.x <= x, best.y <= y))
-}
-
-// No test for itself: it would become a branch that nothing foretells.
-fn both(a: bool, b: bool) -> bool
-    ensures { λ r. ⌜ r ≡ both a b ⌝ }
-{
-    if a { b } else { false }
 }
 
 // The better of the best so far and a point that is kept.

@@ -8,10 +8,10 @@ use native.Mathlib.Omega.{arith}
 use lib.Dec.{leb, ltb, eqb}
 use lib.ListN.{length, take, drop, length-append, take-append-drop}
 use lib.Seq.{take-append-add, drop-append-add}
-use borrow.Author.Tests.{le-leb, lt-ltb, le-ltb, ltb-false, not-false, eqb-false}
+use borrow.Author.Tests.{le-leb, ltb-false, not-false, eqb-false}
 use Rattle.slices.proofs.Choices.{not-both}
 use Rattle.slices.specs.Choices.{both, either}
-use Rattle.hypervolume.proofs.Tests.{Compared, below, above, compared}
+use Rattle.hypervolume.proofs.Tests.{Compared, below, above, compared, not-leb}
 use Rattle.words.specs.Archive.{Trial, Shape, Archive}
 use Rattle.words.specs.Layout.{header, layout, extent, word, read, behind}
 use Rattle.words.specs.Format.{guard, within, number-allowed, coordinates-allowed, held, archive-rows}
@@ -73,13 +73,6 @@ unfolding guard
 never n x e = rw e
 
 -- The conditions of the rows, as the archive and as the book has them.
-not-leb : (m n : ℕ) → not (leb m n) ≡ ltb n m
-not-leb m n = go (leb m n) (compared m n)
-  where
-    go : (x : Bool) → Compared m n x → not x ≡ ltb n m
-    go true (below l) = sym (le-ltb n m l)
-    go false (above l) = sym (lt-ltb n m l)
-
 row-5 : (n : ℕ) → not (number-allowed n) ≡ either (ltb n 1) (ltb 9999999 n)
 unfolding number-allowed within
 row-5 n = not-both (leb 1 n) (leb n 9999999) ∙ rw (not-leb 1 n, not-leb n 9999999)

@@ -7,20 +7,13 @@ use mathlib.Core.List.{List, _∷_, _++_, map, List·Memᴰ, List·Memᴰ·head,
 use native.Mathlib.Omega.{arith}
 use lib.Dec.{leb, ltb}
 use lib.ListN.{length}
-use borrow.Author.Tests.{lt-ltb, le-ltb, le-leb, lt-leb, leb-true}
+use borrow.Author.Tests.{le-ltb, leb-true}
 use Rattle.slices.specs.Choices.{both, either}
 use Rattle.slices.proofs.Choices.{either-turn, not-both, both-true, neither}
 use Rattle.hypervolume.specs.Cells.{holds, dominates}
 use Rattle.hypervolume.specs.Front.{smaller-somewhere, beats, beaten, unbeaten, front, FrontLaws}
-use Rattle.hypervolume.proofs.Tests.{Compared, below, above, compared, by-order, holds-le-one}
+use Rattle.hypervolume.proofs.Tests.{not-leb, by-order, holds-le-one}
 use Rattle.hypervolume.proofs.Axes.{swap-at, dominates-swap}
-
-less-or-not : (x y : ℕ) → ltb x y ≡ not (leb y x)
-less-or-not x y = go (leb y x) (compared y x)
-  where
-    go : (t : Bool) → Compared y x t → ltb x y ≡ not (leb y x)
-    go t (below h) = rw (le-leb y x h, le-ltb x y h)
-    go t (above h) = rw (lt-leb y x h, lt-ltb x y h)
 
 -- Smaller somewhere: the other is not at most equal on all axes.
 pub smaller-not : (p q : List ℕ) → smaller-somewhere p q ≡ not (dominates q p)
@@ -29,7 +22,7 @@ smaller-not [] [] = refl
 smaller-not [] (y ∷ q) = refl
 smaller-not (x ∷ p) [] = refl
 smaller-not (x ∷ p) (y ∷ q) =
-    ap (λ t. either t (smaller-somewhere p q)) (less-or-not x y) ∙ ap (either (not (leb y x))) (smaller-not p q) ∙ sym (not-both (leb y x) (dominates q p))
+    ap (λ t. either t (smaller-somewhere p q)) (sym (not-leb y x)) ∙ ap (either (not (leb y x))) (smaller-not p q) ∙ sym (not-both (leb y x) (dominates q p))
 
 -- Two lists of trials by which the same points are beaten.
 pub unbeaten-alike : (s t ps : List (List ℕ)) → ((q : List ℕ) → beaten s q ≡ beaten t q) → unbeaten s ps ≡ unbeaten t ps

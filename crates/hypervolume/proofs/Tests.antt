@@ -1,11 +1,11 @@
 -- What a test of a cell comes to as a number, over plain variables: the pointwise half of every law of counts.
 use Prim.Native.Nat.{ℕ, _≤_, _<_, max}
-use mathlib.Core.Path.{_≡_, refl}
-use mathlib.Core.Bool.{Bool, true, false}
+use mathlib.Core.Path.{_≡_, refl, sym}
+use mathlib.Core.Bool.{Bool, true, false, not}
 use native.Mathlib.Nat.{le-max-left, le-max-right, max-le}
 use native.Mathlib.Omega.{arith}
-use lib.Dec.{leb, eqb}
-use borrow.Author.Tests.{leb-true, leb-false, eqb-true, eqb-false, le-leb, lt-leb}
+use lib.Dec.{leb, ltb, eqb}
+use borrow.Author.Tests.{leb-true, leb-false, eqb-true, eqb-false, le-leb, lt-leb, le-ltb, lt-ltb}
 use Rattle.slices.specs.Choices.{both}
 use Rattle.hypervolume.specs.Cells.{holds}
 
@@ -20,6 +20,14 @@ compared a b = go (leb a b) refl
     go : (t : Bool) → leb a b ≡ t → Compared a b t
     go true e = below (leb-true a b e)
     go false e = above (leb-false a b e)
+
+-- Not at most: the other is less.
+pub not-leb : (m n : ℕ) → not (leb m n) ≡ ltb n m
+not-leb m n = go (leb m n) (compared m n)
+  where
+    go : (x : Bool) → Compared m n x → not x ≡ ltb n m
+    go true (below l) = sym (le-ltb n m l)
+    go false (above l) = sym (lt-ltb n m l)
 
 -- The two cases of two numbers.
 pub by-order : {P : Type 0} (a b : ℕ) → (a ≤ b → P) → (b < a → P) → P

@@ -2,7 +2,7 @@
 // slice of their coordinates, three to a point.
 ghost use mathlib.Core.Path.{_≡_};
 ghost use mathlib.Core.List.{_∷_, []};
-ghost use Prim.Native.Nat.{ℕ, _-_, _≤_, _<_, _*_, max};
+ghost use Prim.Native.Nat.{ℕ, _-_, _≤_, _<_, _*_, max, min};
 ghost use lib.Dec.{leb};
 ghost use lib.ListN.{length, getD, set};
 ghost use Rattle.hypervolume.specs.Cells.{holds, dominates, join, edges};
@@ -22,8 +22,15 @@ pub fn larger(x: u32, y: u32) -> u32
     if x < y { y } else { x }
 }
 
+// The smaller of two coordinates.
+pub fn smaller(x: u32, y: u32) -> u32
+    ensures { λ r. ⌜ r ≡ min x y ⌝ }
+{
+    if x < y { x } else { y }
+}
+
 // 1 where a coordinate is at most another, else 0. By arithmetic: a choice would become a branch that nothing foretells.
-fn at_most(x: u32, y: u32) -> u32
+pub fn at_most(x: u32, y: u32) -> u32
     ensures { λ r. ⌜ r ≡ holds (leb x y) ⌝ }
 {
     ((y as u64 + 4294967296 - x as u64) / 4294967296) as u32

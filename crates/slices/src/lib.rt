@@ -1,8 +1,16 @@
-// Words of a slice cleared, copied and moved: each writes one part of it, and nothing else.
+// Two tests as one; and words of a slice cleared, copied and moved: each writes one part of it, and nothing else.
 ghost use mathlib.Core.Path.{_≡_};
 ghost use Prim.Native.Nat.{_+_, _≤_};
 ghost use lib.ListN.{length, take, drop, replicate};
+ghost use Rattle.slices.specs.Choices.{both};
 ghost use Rattle.slices.specs.Put.{put};
+
+// Both of two tests. As a call: `&&` would become a branch, also where nothing foretells it.
+pub fn both(a: bool, b: bool) -> bool
+    ensures { λ r. ⌜ r ≡ both a b ⌝ }
+{
+    if a { b } else { false }
+}
 
 // Clears n words from `at` on.
 pub fn clear(w: &mut [u64], at: usize, n: usize)

@@ -6,6 +6,7 @@ use crate::rows::row_at;
 use crate::rows::search;
 use crate::rows::shape_of;
 use hypervolume::Point;
+use slices::both;
 ghost use mathlib.Core.Path.{_≡_};
 ghost use mathlib.Core.Bool.{true, false};
 ghost use Prim.Native.Nat.{ℕ, _+_, _-_, _*_, _≤_};
@@ -18,13 +19,6 @@ ghost use Rattle.words.specs.Layout.{read-shape, read};
 ghost use Rattle.words.specs.Format.{within, shape-allowed, number-allowed, coordinates-allowed, header-allowed, row-allowed, sound-rows, zeros, records-allowed, archive-rows};
 ghost use Rattle.words.specs.Places.{as-row, as-shape, follows, stands, AtPlace, Headed};
 ghost use Rattle.words.specs.Table.{marked, Marking};
-
-// Both of two tests.
-fn both(a: bool, b: bool) -> bool
-    ensures { λ r. ⌜ r ≡ both a b ⌝ }
-{
-    if a { b } else { false }
-}
 
 fn within(low: u64, high: u64, n: u64) -> bool
     ensures { λ r. ⌜ r ≡ within low high n ⌝ }

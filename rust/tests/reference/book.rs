@@ -2,7 +2,7 @@
 //! sees a word.
 
 use super::calls::{Archive, Record};
-use super::{totals, Point, MAX_NUMBER};
+use super::{front, totals, Point, MAX_NUMBER};
 
 #[derive(Clone, Debug)]
 pub struct Book {
@@ -89,21 +89,7 @@ impl Book {
             .map(|(&(number, point), contribution)| Record { number, point, contribution })
             .collect();
         let (capacity, reference, total) = (self.capacity, self.reference, counts.covered);
-        Archive { capacity, reference, total, front: self.front(), records }.words()
-    }
-
-    /// "How many trials are on the front", of those in the book.
-    fn front(&self) -> u64 {
-        let mut on_it = 0;
-        for (_, q) in &self.trials {
-            let mut beaten = false;
-            for (_, p) in &self.trials {
-                let [x, y, z] = [0, 1, 2].map(|axis| p[axis].cmp(&q[axis]));
-                beaten |= x.is_le() && y.is_le() && z.is_le() && p != q;
-            }
-            on_it += u64::from(!beaten);
-        }
-        on_it
+        Archive { capacity, reference, total, front: front(&points), records }.words()
     }
 
     fn too_short(&self, len: usize) -> bool {

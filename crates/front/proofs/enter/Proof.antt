@@ -1,16 +1,23 @@
 -- `enter` meets its contract: what the levels tell, then the y entered in each.
 use mathlib.Core.Path.{ap, _∙_}
-use lib.Dec.{ltb}
+use native.Mathlib.Numerals.{add-one}
+use lib.Dec.{leb, ltb}
 use Rattle.hypervolume.specs.Cells.{holds}
 use borrow.Author.Needs.{needs}
 use Rattle.front.proofs.enter.Statement.{statement}
 use Rattle.front.proofs.enter.Tie as tie
 
+add-at-most : tie.Need-add-at-most
+add-at-most c = search needs
+
 least-requires : tie.Need-least-requires
 least-requires c κs = search needs
 
-less-requires : tie.Need-less-requires
-less-requires c κs = search needs
+at-most-requires : tie.Need-at-most-requires
+at-most-requires c κs = search needs
+
+cast-alone : tie.Need-cast-alone
+cast-alone c = search needs
 
 lower-requires : tie.Need-lower-requires
 lower-requires c κs = (search needs, search needs, c .before .before .before .before .before .before .before .before .before .before .pre .4, c .before .before .before .before .before .before .before .before .before .before .pre .7, c .before .before .before .before .before .before .before .before .before .before .pre .8)
@@ -33,7 +40,9 @@ same-length-3 c = search needs
 returns : tie.Need-returns
 returns c =
     record {
-      told = c .before .before .before .before .before .before .before .before .before .before .before .before .less .ensures ∙ ap (λ m. holds (ltb (c .before .before .before .before .before .before .before .before .before .before .before .before .before .before .before .before .before .before .before .before .before .args .y) m)) (c .before .before .before .before .before .before .before .before .before .before .before .before .before .least .ensures);
+      told =
+          c .before .before .before .before .before .before .before .before .before .before .before .before .at-most .ensures ∙ ap (λ k. holds (leb k (c .before .before .before .before .before .before .before .before .before .before .before .before .before .least .result))) (add-one (c .before .before .before .before .before .before .before .before .before .before .before .before .before .before .before .before .before .before .before .before .before .args .y))
+          ∙ ap (λ m. holds (ltb (c .before .before .before .before .before .before .before .before .before .before .before .before .before .before .before .before .before .before .before .before .before .args .y) m)) (c .before .before .before .before .before .before .before .before .before .before .before .before .before .least .ensures);
       in-high = c .before .before .before .before .before .before .before .before .before .before .lower .ensures;
       in-middle = c .before .before .before .before .before .before .lower2 .ensures;
       in-low = c .before .before .lower3 .ensures;
@@ -43,8 +52,10 @@ pub enter-spec : {M : Type 1} → statement M
 enter-spec =
     tie.close
     (tie.spec
+    add-at-most
     least-requires
-    less-requires
+    at-most-requires
+    cast-alone
     lower-requires
     lower-requires-2
     lower-requires-3

@@ -1,7 +1,7 @@
 -- `both` meets its contract, by the branch taken.
 use Rattle.slices.specs.Choices.{both}
-use Rattle.front.proofs.both.Statement.{statement}
-use Rattle.front.proofs.both.Tie as tie
+use Rattle.slices.proofs.both.Statement.{statement}
+use Rattle.slices.proofs.both.Tie as tie
 
 returns : tie.Need-returns
 unfolding both
