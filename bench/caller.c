@@ -189,12 +189,12 @@ static ta_answer audit(void)
     return answer;
 }
 
-static ta_least_answer least(void)
+static ta_least_answer least(uint64_t rule)
 {
     ta_least_answer answer;
 
     remember(lent);
-    answer = ta_least(words, LENT);
+    answer = ta_least(words, LENT, rule);
     check_untouched(lent);
     return answer;
 }
@@ -209,12 +209,12 @@ static uint8_t out_memory[GUARD + OUT + GUARD];
 static uint8_t *const out = out_memory + GUARD;
 
 /* Reduces with the first words of a log that holds marks. */
-static ta_answer reduce(uint64_t k, size_t log_len)
+static ta_answer reduce(uint64_t k, uint64_t rule, size_t log_len)
 {
     ta_answer answer;
 
     fill(log_memory, LENGTH(log_memory));
-    answer = ta_reduce(words, LENT, k, log_words, log_len);
+    answer = ta_reduce(words, LENT, k, rule, log_words, log_len);
     check_guards();
     return answer;
 }
@@ -259,7 +259,7 @@ static void counts_1_to_3(void)
 {
     start(4, 4, 4);
     CHECK(words[TA_TOTAL] == 0);
-    CHECK(is_least(least(), TA_NONE_HELD, 0, 0));
+    CHECK(is_least(least(TA_TIE_LOWEST), TA_NONE_HELD, 0, 0));
 
     CHECK(insert(1, 0, 0, 0) == TA_DONE);
     CHECK(words[TA_TOTAL] == 64);
@@ -312,16 +312,56 @@ static void count_8(void)
 {
     insert_card(4);
     CHECK(TA_LOG_WORDS(words[TA_COUNT], 2) == 4);
-    CHECK(is_least(least(), TA_DONE, 4, 1));
-    CHECK(is_answer(reduce(2, 6), TA_DONE, 2));
+    CHECK(is_least(least(TA_TIE_LOWEST), TA_DONE, 4, 1));
+    CHECK(is_answer(reduce(2, TA_TIE_LOWEST, 6), TA_DONE, 2));
+    CHECK(log_words[0] == 4 && log_words[1] == 1);
+    CHECK(log_words[2] == 1 && log_words[3] == 4);
+    check_log(4);
+    CHECK(words[TA_COUNT] == 2);
+    CHECK(words[TA_TOTAL] == 16);
+    CHECK(contribution(2) == 4);
+    CHECK(contribution(3) == 4);
+    CHECK(is_answer(audit(), TA_DONE, 1));
+
+    insert_card(4);
+    CHECK(is_least(least(TA_TIE_HIGHEST), TA_DONE, 4, 1));
+    CHECK(is_answer(reduce(2, TA_TIE_HIGHEST, 6), TA_DONE, 2));
     CHECK(log_words[0] == 4 && log_words[1] == 1);
     CHECK(log_words[2] == 3 && log_words[3] == 4);
     check_log(4);
-    CHECK(words[TA_COUNT] == 2);
     CHECK(words[TA_TOTAL] == 16);
     CHECK(contribution(1) == 4);
     CHECK(contribution(2) == 4);
     CHECK(is_answer(audit(), TA_DONE, 1));
+}
+
+/* Ties by both rules, and row 18 behind rows 1 to 3 and before the others. */
+static void tie_rules(void)
+{
+    static const uint64_t others[] = {2, 3, 255, (uint64_t)1 << 32, ((uint64_t)1 << 32) + 1, UINT64_MAX};
+    size_t i;
+
+    insert_card(3);
+    CHECK(is_least(least(TA_TIE_LOWEST), TA_DONE, 1, 4));
+    CHECK(is_least(least(TA_TIE_HIGHEST), TA_DONE, 3, 4));
+    for (i = 0; i < LENGTH(others); i++) {
+        remember(before);
+        CHECK(is_least(least(others[i]), TA_BAD_RULE, 0, 0));
+        CHECK(is_answer(reduce(2, others[i], 2), TA_BAD_RULE, 0));
+        CHECK(is_answer(reduce(4, others[i], 0), TA_BAD_RULE, 0));
+        CHECK(is_answer(reduce(0, others[i], 0), TA_BAD_RULE, 0));
+        check_log(0);
+        check_untouched(before);
+    }
+    words[TA_TOTAL] = 21;
+    CHECK(is_answer(reduce(3, 2, 0), TA_BAD_RULE, 0));
+    CHECK(is_answer(reduce(3, TA_TIE_HIGHEST, 0), TA_MISCOUNT, 0));
+    words[TA_TOTAL] = 65;
+    CHECK(is_least(least(2), TA_BAD_HEADER, 0, 0));
+    CHECK(is_answer(reduce(3, 2, 0), TA_BAD_HEADER, 0));
+    start(4, 4, 4);
+    CHECK(is_least(least(2), TA_BAD_RULE, 0, 0));
+    CHECK(is_least(least(TA_TIE_HIGHEST), TA_NONE_HELD, 0, 0));
 }
 
 static void counts_9_to_11(void)
@@ -458,7 +498,7 @@ static void fronts(void)
     CHECK(insert(7, 0, 0, 0) == TA_DONE);
     CHECK(words[TA_FRONT] == 1);
     CHECK(is_answer(audit(), TA_DONE, 1));
-    CHECK(is_answer(reduce(2, 8), TA_DONE, 4));
+    CHECK(is_answer(reduce(2, TA_TIE_LOWEST, 8), TA_DONE, 4));
     CHECK(words[TA_FRONT] == 1);
     CHECK(remove_trial(7) == TA_DONE);
     CHECK(words[TA_COUNT] == 1);
@@ -467,7 +507,7 @@ static void fronts(void)
     /* all of them */
     insert_card(4);
     CHECK(words[TA_FRONT] == 4);
-    CHECK(is_answer(reduce(2, 4), TA_DONE, 2));
+    CHECK(is_answer(reduce(2, TA_TIE_LOWEST, 4), TA_DONE, 2));
     CHECK(words[TA_FRONT] == 2);
 }
 
@@ -477,14 +517,14 @@ static void kept_from_before(void)
     insert_card(4);
     words[TA_FRONT] = 0;
     CHECK(is_answer(audit(), TA_DONE, 0));
-    CHECK(is_least(least(), TA_DONE, 4, 1));
+    CHECK(is_least(least(TA_TIE_LOWEST), TA_DONE, 4, 1));
     CHECK(is_answer(joint(1, 4), TA_DONE, 2));
     CHECK(is_answer(gain(1, 1, 1), TA_DONE, 6));
     CHECK(is_answer(share(), TA_DONE, 328125));
     CHECK(is_answer(write_report(LENT, OUT), TA_DONE, TA_REPORT_BYTES(4)));
     remember(before);
-    CHECK(is_answer(reduce(2, 4), TA_MISCOUNT, 0));
-    CHECK(is_answer(reduce(4, 0), TA_MISCOUNT, 0));
+    CHECK(is_answer(reduce(2, TA_TIE_LOWEST, 4), TA_MISCOUNT, 0));
+    CHECK(is_answer(reduce(4, TA_TIE_LOWEST, 0), TA_MISCOUNT, 0));
     check_log(0);
     CHECK(insert(1, 0, 0, 0) == TA_NUMBER_HELD);
     CHECK(remove_trial(5) == TA_NOT_HELD);
@@ -498,7 +538,7 @@ static void kept_from_before(void)
     CHECK(remove_trial(4) == TA_DONE);
     CHECK(words[TA_FRONT] == 3);
     CHECK(is_answer(audit(), TA_DONE, 1));
-    CHECK(is_answer(reduce(2, 2), TA_DONE, 1));
+    CHECK(is_answer(reduce(2, TA_TIE_LOWEST, 2), TA_DONE, 1));
     CHECK(words[TA_FRONT] == 2);
 
     /* counted anew, whatever stood there */
@@ -512,7 +552,7 @@ static void kept_from_before(void)
     start(4, 4, 4);
     words[TA_FRONT] = 0;
     CHECK(is_answer(audit(), TA_DONE, 1));
-    CHECK(is_answer(reduce(0, 0), TA_DONE, 0));
+    CHECK(is_answer(reduce(0, TA_TIE_LOWEST, 0), TA_DONE, 0));
 }
 
 /* ---- document 01's card and report */
@@ -601,8 +641,8 @@ static void check_row(uint64_t row, size_t len)
     fill(log_memory, LENGTH(log_memory));
     CHECK(ta_insert(words, len, 9, 0, 0, 0) == row);
     CHECK(ta_remove(words, len, 1) == row);
-    CHECK(is_least(ta_least(words, len), row, 0, 0));
-    CHECK(is_answer(ta_reduce(words, len, 0, log_words, LOG), row, 0));
+    CHECK(is_least(ta_least(words, len, TA_TIE_LOWEST), row, 0, 0));
+    CHECK(is_answer(ta_reduce(words, len, 0, TA_TIE_LOWEST, log_words, LOG), row, 0));
     CHECK(is_answer(ta_joint(words, len, 1, 2), row, 0));
     CHECK(is_answer(ta_gain(words, len, 0, 0, 0), row, 0));
     CHECK(is_answer(ta_share(words, len), row, 0));
@@ -663,13 +703,13 @@ static void rows_11_to_13(void)
     words[TA_TOTAL] = 20;
     remember(before);
     CHECK(is_answer(audit(), TA_DONE, 0));
-    CHECK(is_answer(reduce(5, 0), TA_ABOVE_COUNT, 0));
+    CHECK(is_answer(reduce(5, TA_TIE_LOWEST, 0), TA_ABOVE_COUNT, 0));
     check_log(0);
-    CHECK(is_answer(reduce(0, LOG - 1), TA_LOG_SHORT, 0));
+    CHECK(is_answer(reduce(0, TA_TIE_LOWEST, LOG - 1), TA_LOG_SHORT, 0));
     check_log(0);
-    CHECK(is_answer(reduce(0, LOG), TA_MISCOUNT, 0));
+    CHECK(is_answer(reduce(0, TA_TIE_LOWEST, LOG), TA_MISCOUNT, 0));
     check_log(0);
-    CHECK(is_answer(reduce(4, 0), TA_MISCOUNT, 0));
+    CHECK(is_answer(reduce(4, TA_TIE_LOWEST, 0), TA_MISCOUNT, 0));
     check_log(0);
     check_untouched(before);
 
@@ -713,7 +753,7 @@ static void coordinate_held(uint64_t reference, size_t axis, uint64_t coordinate
     CHECK(words[TA_TOTAL] == cells);
     CHECK(words[TA_RECORDS + 1 + axis] == coordinate);
     CHECK(contribution(1) == cells);
-    CHECK(is_least(least(), TA_DONE, 1, cells));
+    CHECK(is_least(least(TA_TIE_LOWEST), TA_DONE, 1, cells));
     CHECK(is_answer(audit(), TA_DONE, 1));
     /* row 3, by the limit alone */
     words[TA_RECORDS + 1 + axis] = TA_MAX_COORDINATE + 1;
@@ -800,7 +840,7 @@ static void numbers_converted(void)
     CHECK(is_answer(ta_gain(words, LENT, 1, negative, 1), TA_BAD_COORDINATE, 0));
     CHECK(ta_remove(words, LENT, negative) == TA_NOT_HELD);
     CHECK(is_answer(ta_joint(words, LENT, 1, negative), TA_NOT_HELD, 0));
-    CHECK(is_answer(ta_reduce(words, LENT, negative, log_words, LOG), TA_ABOVE_COUNT, 0));
+    CHECK(is_answer(ta_reduce(words, LENT, negative, TA_TIE_LOWEST, log_words, LOG), TA_ABOVE_COUNT, 0));
     check_untouched(before);
 
     CHECK(ta_insert(words, LENT, 7, fraction, near_zero, 3.0) == TA_DONE);
@@ -848,12 +888,12 @@ static void fields(void)
     CHECK(answer.value == 0);
 
     insert_card(4);
-    least_found = least();
+    least_found = least(TA_TIE_LOWEST);
     CHECK(least_found.refusal == 0);
     CHECK(least_found.number == 4);
     CHECK(least_found.contribution == 1);
     start(4, 4, 4);
-    least_found = least();
+    least_found = least(TA_TIE_LOWEST);
     CHECK(least_found.refusal == 14);
     CHECK(least_found.number == 0);
     CHECK(least_found.contribution == 0);
@@ -901,6 +941,7 @@ int main(void)
     counts_4_and_5();
     counts_6_and_7();
     count_8();
+    tie_rules();
     counts_9_to_11();
     ties_of_shares();
     random_shares();

@@ -27,8 +27,8 @@ static void nothing(void) {}
 static void start(void) { answer = ta_start(words, len, 9, 9, 9, TA_MAX_CAPACITY); }
 static void insert(void) { answer = ta_insert(words, len, TA_MAX_NUMBER, 1, 2, 3); }
 static void remove_trial(void) { answer = ta_remove(words, len, TA_MAX_NUMBER); }
-static void least(void) { answer = ta_least(words, len).refusal; }
-static void reduce(void) { answer = ta_reduce(words, len, 0, log_words, 2 * TA_MAX_CAPACITY).refusal; }
+static void least(void) { answer = ta_least(words, len, TA_TIE_LOWEST).refusal; }
+static void reduce(void) { answer = ta_reduce(words, len, 0, TA_TIE_LOWEST, log_words, 2 * TA_MAX_CAPACITY).refusal; }
 static void joint(void) { answer = ta_joint(words, len, 2, 3).refusal; }
 static void gain(void) { answer = ta_gain(words, len, 1, 2, 3).refusal; }
 static void share(void) { answer = ta_share(words, len).refusal; }

@@ -82,13 +82,13 @@ inline Words fresh(Trials trials, std::size_t capacity, Point reference)
     return words;
 }
 
-// The least contributor; among equals the one with the highest number.
+// The least contributor; among equals the one with the lowest number.
 inline std::size_t least_of(const Trials &trials, const std::vector<Count> &kept)
 {
     std::size_t least = 0;
     for (std::size_t i = 1; i < trials.size(); i++)
         if (kept[i] < kept[least] ||
-            (kept[i] == kept[least] && trials[i].number > trials[least].number))
+            (kept[i] == kept[least] && trials[i].number < trials[least].number))
             least = i;
     return least;
 }

@@ -58,7 +58,7 @@ void removal(const Library &l, State &s, const Case &c)
 void exchange(const Library &l, State &s, const Case &c)
 {
     insertion(l, s, c);
-    ta_least_answer least = l.least(s.words.data(), s.words.size());
+    ta_least_answer least = l.least(s.words.data(), s.words.size(), TA_TIE_LOWEST);
     s.least = least.number;
     s.value = least.contribution;
     s.refusal |= least.refusal | l.remove(s.words.data(), s.words.size(), least.number);
@@ -66,7 +66,8 @@ void exchange(const Library &l, State &s, const Case &c)
 
 void reduction(const Library &l, State &s, const Case &c)
 {
-    ta_answer answer = l.reduce(s.words.data(), s.words.size(), c.keep, s.log.data(), s.log.size());
+    ta_answer answer = l.reduce(s.words.data(), s.words.size(), c.keep, TA_TIE_LOWEST,
+                                s.log.data(), s.log.size());
     s.refusal = answer.refusal;
     s.value = answer.value;
 }

@@ -49,11 +49,11 @@ std::uint64_t make(char call, State &s, const Case &c)
     case 'r':
         return ta_remove(words, length, c.trial.number);
     case 'l':
-        return ta_least(words, length).refusal;
+        return ta_least(words, length, TA_TIE_LOWEST).refusal;
     case 'a':
         return ta_audit(words, length).refusal;
     case 'd':
-        return ta_reduce(words, length, c.keep, s.log.data(), s.log.size()).refusal;
+        return ta_reduce(words, length, c.keep, TA_TIE_LOWEST, s.log.data(), s.log.size()).refusal;
     case 'c':
         return ta_card_load(words, length, c.card.data(), c.card.size()).refusal;
     default:

@@ -9,8 +9,9 @@ extern "C" {
 uint64_t rs_insert(uint64_t *words, size_t len, uint64_t number, uint64_t x, uint64_t y,
                    uint64_t z);
 uint64_t rs_remove(uint64_t *words, size_t len, uint64_t number);
-ta_least_answer rs_least(const uint64_t *words, size_t len);
-ta_answer rs_reduce(uint64_t *words, size_t len, uint64_t k, uint64_t *log, size_t log_len);
+ta_least_answer rs_least(const uint64_t *words, size_t len, uint64_t rule);
+ta_answer rs_reduce(uint64_t *words, size_t len, uint64_t k, uint64_t rule, uint64_t *log,
+                    size_t log_len);
 ta_answer rs_audit(const uint64_t *words, size_t len);
 ta_load_answer rs_card_load(uint64_t *words, size_t len, const uint8_t *card, size_t card_len);
 ta_answer rs_report(const uint64_t *words, size_t len, uint8_t *out, size_t out_len);

@@ -111,7 +111,8 @@
  *                                             at[0], at[1], at[2])))
  *                 printf("trial %" PRIu64 " is left out\n", i + 1);
  *         }
- *         drops = ta_reduce(words, WORDS, KEPT, log, LOG_WORDS);
+ *         drops = ta_reduce(words, WORDS, KEPT, TA_TIE_LOWEST, log,
+ *                           LOG_WORDS);
  *         if (refused("reduce", drops.refusal))
  *             return 1;
  *         for (i = 0; i < drops.value; i++)
@@ -219,8 +220,16 @@ enum {
     /* Card: a line not of the form; an empty card is line 1. */
     TA_CARD_FORM = 15,
     /* Report: output shorter than 53 * (count + 1) bytes. */
-    TA_OUTPUT_SHORT = 16
+    TA_OUTPUT_SHORT = 16,
+    /* Least, reduce: a tie rule that is neither 0 nor 1. Checked after row 3
+       and before 11, 12, 13 and 14. */
+    TA_BAD_RULE = 18
 };
+
+/* The tie rules: which of several least contributors goes, the one with the
+   lowest trial number (the default) or the one with the highest. */
+#define TA_TIE_LOWEST 0
+#define TA_TIE_HIGHEST 1
 
 /* A refusal, or 0 and one number. */
 typedef struct ta_answer {
@@ -269,21 +278,22 @@ uint64_t ta_insert(uint64_t *words, size_t len, uint64_t number,
 uint64_t ta_remove(uint64_t *words, size_t len, uint64_t number);
 
 /*
- * The trial whose kept contribution is least; among equals the highest trial
- * number.
- * Refusals: 1 to 3, 14.
+ * The trial whose kept contribution is least; among equals by the tie rule:
+ * TA_TIE_LOWEST (0) the lowest trial number, TA_TIE_HIGHEST (1) the highest.
+ * Refusals: 1 to 3, 18, 14.
  */
-ta_least_answer ta_least(const uint64_t *words, size_t len);
+ta_least_answer ta_least(const uint64_t *words, size_t len, uint64_t rule);
 
 /*
- * Drops the least contributor by ta_least's rule until k trials are held. For
+ * Drops the least contributor by ta_least until k trials are held, each time
+ * among those then held, and among equals by the tie rule as there. For
  * each drop the log receives two words: the number, and its contribution at
  * that moment. The value is the count of drops; log words behind the 2 *
  * drops written stay unchanged. k equal to the count drops none, and k = 0 is
  * allowed. The log needs TA_LOG_WORDS(count, k) words.
- * Refusals: 1 to 3, 11, 12, 13 (also where k equals the count).
+ * Refusals: 1 to 3, 18, 11, 12, 13 (also where k equals the count).
  */
-ta_answer ta_reduce(uint64_t *words, size_t len, uint64_t k,
+ta_answer ta_reduce(uint64_t *words, size_t len, uint64_t k, uint64_t rule,
                     uint64_t *log, size_t log_len);
 
 /*

@@ -2,6 +2,7 @@
 
 use crate::refusal::{CardRefusal, Refusal};
 use crate::words;
+use crate::TieRule;
 
 const MAX_CAPACITY: usize = 512;
 
@@ -72,17 +73,27 @@ impl Archive {
         words::remove(&mut self.words, number)
     }
 
-    /// The trial whose contribution is least; among equals the highest trial number.
+    /// The trial whose contribution is least; among equals the lowest trial number.
     pub fn least(&self) -> Result<Contribution, Refusal> {
-        words::least(&self.words)
+        self.least_by(TieRule::default())
     }
 
-    /// Drops the least contributor until `k` trials are held. Answers the drops in turn, each
-    /// with its contribution at that moment.
+    /// The trial whose contribution is least; among equals by the tie rule.
+    pub fn least_by(&self, rule: TieRule) -> Result<Contribution, Refusal> {
+        words::least(&self.words, rule)
+    }
+
+    /// Drops the least contributor, among equals the lowest trial number, until `k` trials are held.
+    /// Answers the drops in turn, each with its contribution at that moment.
     pub fn reduce(&mut self, k: u64) -> Result<Vec<Contribution>, Refusal> {
+        self.reduce_by(k, TieRule::default())
+    }
+
+    /// As [`Archive::reduce`], with ties settled by this rule.
+    pub fn reduce_by(&mut self, k: u64, rule: TieRule) -> Result<Vec<Contribution>, Refusal> {
         let drops = (self.count() as u64).saturating_sub(k) as usize;
         let mut log = vec![0; 2 * drops];
-        words::reduce(&mut self.words, k, &mut log)?;
+        words::reduce(&mut self.words, k, rule, &mut log)?;
         let pair = |p: &[u64]| Contribution { number: p[0], contribution: p[1] };
         Ok(log.chunks_exact(2).map(pair).collect())
     }

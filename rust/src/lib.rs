@@ -21,7 +21,7 @@
 //! assert_eq!(archive.insert(3, [0, 0, 0]), Err(Refusal::NumberHeld));
 //!
 //! let dropped = archive.reduce(2)?;
-//! assert_eq!((dropped[0].number, dropped[0].contribution), (3, 4));
+//! assert_eq!((dropped[0].number, dropped[0].contribution), (1, 4));
 //! # Ok(())
 //! # }
 //! ```
@@ -45,11 +45,13 @@
 
 mod archive;
 mod refusal;
+mod rule;
 pub mod sys;
 pub mod words;
 
 pub use archive::{Archive, Contribution, Trial};
 pub use refusal::{CardRefusal, Refusal};
+pub use rule::TieRule;
 
 /// Judges a card without an archive, as [`Archive::load_card`] would.
 pub fn check_card(card: &[u8]) -> Result<(), CardRefusal> {

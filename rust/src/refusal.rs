@@ -43,11 +43,13 @@ pub enum Refusal {
     CardForm = 15,
     /// Report: output shorter than 53 × (count + 1) bytes.
     OutputShort = 16,
+    /// Least, reduce: a tie rule that is neither 0 nor 1. Only the bare C interface can be given one.
+    BadRule = 18,
 }
 
 impl Refusal {
     /// Every refusal, in the order of the table.
-    pub const ALL: [Refusal; 16] = [
+    pub const ALL: [Refusal; 17] = [
         Refusal::SliceShort,
         Refusal::BadHeader,
         Refusal::BadRecords,
@@ -64,6 +66,7 @@ impl Refusal {
         Refusal::NoneHeld,
         Refusal::CardForm,
         Refusal::OutputShort,
+        Refusal::BadRule,
     ];
 
     /// The number of its row.
@@ -104,6 +107,7 @@ impl fmt::Display for Refusal {
             Refusal::NoneHeld => "no trial held",
             Refusal::CardForm => "card line not of the form",
             Refusal::OutputShort => "output too short",
+            Refusal::BadRule => "tie rule neither 0 nor 1",
         })
     }
 }

@@ -37,9 +37,16 @@ extern "C" {
 
     pub fn ta_remove(words: *mut u64, len: usize, number: u64) -> u64;
 
-    pub fn ta_least(words: *const u64, len: usize) -> LeastAnswer;
+    pub fn ta_least(words: *const u64, len: usize, rule: u64) -> LeastAnswer;
 
-    pub fn ta_reduce(words: *mut u64, len: usize, k: u64, log: *mut u64, log_len: usize) -> Answer;
+    pub fn ta_reduce(
+        words: *mut u64,
+        len: usize,
+        k: u64,
+        rule: u64,
+        log: *mut u64,
+        log_len: usize,
+    ) -> Answer;
 
     pub fn ta_joint(words: *const u64, len: usize, first: u64, second: u64) -> Answer;
 

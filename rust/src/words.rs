@@ -5,7 +5,7 @@
 
 use crate::refusal::{CardRefusal, Refusal};
 use crate::sys;
-use crate::Contribution;
+use crate::{Contribution, TieRule};
 
 /// The words that an archive of this capacity takes: 8 + 5 × capacity.
 pub const fn needed(capacity: usize) -> usize {
@@ -43,21 +43,22 @@ pub fn remove(words: &mut [u64], number: u64) -> Result<(), Refusal> {
     Refusal::check(unsafe { sys::ta_remove(words.as_mut_ptr(), words.len(), number) })
 }
 
-/// The trial whose kept contribution is least; among equals the highest trial number.
-pub fn least(words: &[u64]) -> Result<Contribution, Refusal> {
+/// The trial whose kept contribution is least; among equals by the tie rule.
+pub fn least(words: &[u64], rule: TieRule) -> Result<Contribution, Refusal> {
     // SAFETY: pointer and length are those of one slice borrowed for the call.
-    let answer = unsafe { sys::ta_least(words.as_ptr(), words.len()) };
+    let answer = unsafe { sys::ta_least(words.as_ptr(), words.len(), rule.number()) };
     Refusal::check(answer.refusal)?;
     Ok(Contribution { number: answer.number, contribution: answer.contribution })
 }
 
-/// Drops the least contributor until `k` trials are held and answers the count of drops; each
-/// drop puts its number and its contribution at that moment into the log.
-pub fn reduce(words: &mut [u64], k: u64, log: &mut [u64]) -> Result<u64, Refusal> {
+/// Drops the least contributor, among equals by the tie rule, until `k` trials are held and answers
+/// the count of drops; each drop puts its number and its contribution at that moment into the log.
+pub fn reduce(words: &mut [u64], k: u64, rule: TieRule, log: &mut [u64]) -> Result<u64, Refusal> {
     // SAFETY: pointers and lengths are those of two slices borrowed mutably for the call, which
     // therefore share no memory.
     value(unsafe {
-        sys::ta_reduce(words.as_mut_ptr(), words.len(), k, log.as_mut_ptr(), log.len())
+        let (words, len) = (words.as_mut_ptr(), words.len());
+        sys::ta_reduce(words, len, k, rule.number(), log.as_mut_ptr(), log.len())
     })
 }
 

@@ -29,8 +29,8 @@ fn calls() -> Vec<Call> {
     vec![
         Call::Insert { number: 5, point: [0, 0, 0] },
         Call::Remove { number: 4 },
-        Call::Least,
-        Call::Reduce { k: 2, log: vec![91, 92, 93, 94, 95] },
+        Call::Least { rule: 0 },
+        Call::Reduce { k: 2, rule: 0, log: vec![91, 92, 93, 94, 95] },
         Call::Joint { first: 1, second: 2 },
         Call::Gain { point: [0, 3, 0] },
         Call::Share,
@@ -359,7 +359,7 @@ fn taken(reference: Point, point: Point) {
     let words = expect(&Call::Insert { number: 7, point }, &empty, 0).words;
     assert_eq!(words[8..13], [7, point[0], point[1], point[2], cells], "{reference:?}");
     assert_eq!((words[0], words[5]), (1, cells));
-    assert_eq!(expect(&Call::Least, &words, 0).answer, [0, 7, cells]);
+    assert_eq!(expect(&Call::Least { rule: 0 }, &words, 0).answer, [0, 7, cells]);
     assert_eq!(expect(&Call::Audit, &words, 0).answer, [0, 1]);
     expect(&Call::Insert { number: 7, point }, &words, 7);
 }
@@ -413,8 +413,8 @@ fn rows_of_remove_and_joint() {
 
 #[test]
 fn rows_of_least_and_report() {
-    expect(&Call::Least, &words_of([4, 4, 4], 1, &[]), 14);
-    expect(&Call::Least, &words_of([4, 4, 4], 1, &TRIALS[..1]), 0);
+    expect(&Call::Least { rule: 0 }, &words_of([4, 4, 4], 1, &[]), 14);
+    expect(&Call::Least { rule: 0 }, &words_of([4, 4, 4], 1, &TRIALS[..1]), 0);
     for count in 0..=4 {
         let words = words_of([4, 4, 4], 4, &TRIALS[..count]);
         let exact = 53 * (count + 1);
@@ -431,7 +431,8 @@ fn rows_of_reduce() {
     let foreign = with(&[(5, 22)]);
     for k in [0, 1, 2, 3, 4, 5, 6, 1 << 32, 1 << 63, u64::MAX] {
         for length in 0..=10 {
-            let reduce = Call::Reduce { k, log: vec![99; length] };
+            let rule = k % 2;
+            let reduce = Call::Reduce { k, rule, log: vec![99; length] };
             let row = if k > 4 {
                 11
             } else if (length as u64) < 2 * (4 - k) {
@@ -445,7 +446,53 @@ fn rows_of_reduce() {
     }
     for at in [12, 17, 22, 27] {
         let wrong = with(&[(at, card_words()[at] + 1)]);
-        expect(&Call::Reduce { k: 4, log: Vec::new() }, &wrong, 13);
+        expect(&Call::Reduce { k: 4, rule: 0, log: Vec::new() }, &wrong, 13);
+    }
+}
+
+/// Document 02, W-206: row 18 behind rows 1 to 3, before 11, 12, 13 and 14.
+#[test]
+fn row_18_of_least_and_reduce() {
+    let (counted, wrong, empty) = (card_words(), with(&[(5, 22)]), words_of([4, 4, 4], 8, &[]));
+    let rules = [2, 3, 18, 255, 256, 1 << 32, 1 | 1 << 32, 1 << 63, 1 | 1 << 63, u64::MAX];
+    for rule in rules {
+        for words in [&counted, &wrong, &empty] {
+            expect(&Call::Least { rule }, words, 18);
+            for (k, length) in [(0, 8), (0, 0), (4, 0), (5, 0), (u64::MAX, 1)] {
+                expect(&Call::Reduce { k, rule, log: vec![99; length] }, words, 18);
+            }
+        }
+        for (damaged, row) in [(with(&[(7, 1)]), 2), (with(&[(8, 0)]), 3)] {
+            expect(&Call::Least { rule }, &damaged, row);
+            expect(&Call::Reduce { k: 5, rule, log: Vec::new() }, &damaged, row);
+            expect(&Call::Least { rule }, &damaged[..7], 1);
+            expect(&Call::Reduce { k: 5, rule, log: Vec::new() }, &damaged[..7], 1);
+        }
+    }
+    for rule in [0, 1] {
+        expect(&Call::Least { rule }, &empty, 14);
+        expect(&Call::Least { rule }, &counted, 0);
+    }
+}
+
+/// Ties of every size, by both rules.
+#[test]
+fn ties_by_both_rules() {
+    for count in 1..=4 {
+        let equal: Vec<_> = (0..count).map(|i| (9 - 2 * i, [1, 1, 1])).collect();
+        let words = words_of([4, 4, 4], 8, &equal);
+        let contribution = if count == 1 { 27 } else { 0 };
+        let least = |rule| expect(&Call::Least { rule }, &words, 0).answer;
+        assert_eq!(least(0), [0, 9 - 2 * (count - 1), contribution]);
+        assert_eq!(least(1), [0, 9, contribution]);
+        for rule in [0, 1] {
+            let log = vec![99; 2 * count as usize];
+            let dropped = expect(&Call::Reduce { k: 0, rule, log }, &words, 0).log;
+            let numbers: Vec<u64> = dropped.chunks(2).map(|pair| pair[0]).collect();
+            let mut due: Vec<u64> = equal.iter().map(|trial| trial.0).collect();
+            due.sort_unstable_by_key(|&n| if rule == 0 { n } else { 9 - n });
+            assert_eq!(numbers, due);
+        }
     }
 }
 

@@ -1,6 +1,6 @@
 //! Document 01's "Counts to meet", by the safe archive.
 
-use trial_archive::{Archive, Contribution, Refusal};
+use trial_archive::{Archive, Contribution, Refusal, TieRule};
 
 fn archive(trials: &[(u64, [u32; 3])]) -> Archive {
     let mut archive = Archive::start([4, 4, 4], 8).unwrap();
@@ -80,12 +80,15 @@ fn count_7_joint_with_and_without_a_third() {
 
 #[test]
 fn count_8_reduced_to_two() {
-    let mut archive = archive(&CARD);
-    let dropped = archive.reduce(2).unwrap();
     let drop = |number, contribution| Contribution { number, contribution };
-    assert_eq!(dropped, [drop(4, 1), drop(3, 4)]);
-    assert_eq!(archive.total(), 16);
-    assert_eq!(contributions(&archive), [(1, 4), (2, 4)]);
+    let mut lowest = archive(&CARD);
+    assert_eq!(lowest.reduce(2).unwrap(), [drop(4, 1), drop(1, 4)]);
+    assert_eq!(lowest.total(), 16);
+    assert_eq!(contributions(&lowest), [(2, 4), (3, 4)]);
+    let mut highest = archive(&CARD);
+    assert_eq!(highest.reduce_by(2, TieRule::Highest).unwrap(), [drop(4, 1), drop(3, 4)]);
+    assert_eq!(highest.total(), 16);
+    assert_eq!(contributions(&highest), [(1, 4), (2, 4)]);
 }
 
 #[test]

@@ -156,11 +156,11 @@ fn kept_from_before() {
         for k in [0, count / 2, count] {
             let log = vec![7; 2 * (count - k) as usize];
             let row = if count == 0 { 0 } else { 13 };
-            assert_eq!(expect(&Call::Reduce { k, log }, &words, row).words, words);
+            assert_eq!(expect(&Call::Reduce { k, rule: k % 2, log }, &words, row).words, words);
         }
         let point = shape.point(rng, &[]);
         for call in [
-            Call::Least,
+            Call::Least { rule: count % 2 },
             Call::Gain { point },
             Call::Share,
             Call::Joint { first: words[8], second: words[(8 + 5 * words[0] as usize).max(13) - 5] },

@@ -6,7 +6,7 @@ use crate::reference::book::Book;
 use crate::reference::{Point, MAX_COORDINATE, MAX_NUMBER, MAX_REFERENCE};
 use crate::rng::{scenes, Rng};
 use crate::scenes::{part, wide, Shape, Size};
-use trial_archive::{words, Refusal};
+use trial_archive::{words, Refusal, TieRule};
 
 struct History {
     shape: Shape,
@@ -120,8 +120,9 @@ impl History {
         let mut expected = log.clone();
         let lent = self.lent(rng);
         let total = self.words[5];
-        let answer = words::reduce(&mut self.words[..lent], k, &mut log);
-        match self.book.reduce(lent, k, length) {
+        let rule = rng.pick(&[0, 0, 0, 1, 1, 1, 2, u64::MAX]);
+        let answer = lend::reduce(&mut self.words[..lent], k, rule, &mut log);
+        match self.book.reduce(lent, k, rule, length) {
             Ok(notes) => {
                 assert_eq!(answer, Ok(notes.len() as u64), "reduce to {k}");
                 let sum: u64 = notes.iter().map(|note| note.1).sum();
@@ -217,8 +218,8 @@ fn full_without_ties(name: &str, point: impl Fn(u64) -> Point) {
         assert_eq!(book.remove(lent, number), 0);
     }
     let mut log = [0; 4];
-    assert_eq!(words::reduce(&mut words, 505, &mut log), Ok(2));
-    let notes = book.reduce(lent, 505, 4).expect("two drops");
+    assert_eq!(words::reduce(&mut words, 505, TieRule::Lowest, &mut log), Ok(2));
+    let notes = book.reduce(lent, 505, 0, 4).expect("two drops");
     assert_eq!(log, [notes[0].0, notes[0].1, notes[1].0, notes[1].1], "{name}");
     assert_eq!(words, book.fresh(), "{name}, reduced");
 }
@@ -249,8 +250,8 @@ fn full_half_beyond() {
     }
     assert_eq!(words, book.fresh(), "half beyond");
     let mut log = [0; 8];
-    assert_eq!(words::reduce(&mut words, 508, &mut log), Ok(4));
-    let notes = book.reduce(lent, 508, 8).expect("4 drops");
+    assert_eq!(words::reduce(&mut words, 508, TieRule::Highest, &mut log), Ok(4));
+    let notes = book.reduce(lent, 508, 1, 8).expect("4 drops");
     assert_eq!(log.to_vec(), notes.iter().flat_map(|n| [n.0, n.1]).collect::<Vec<u64>>());
     assert_eq!(words, book.fresh(), "half beyond, reduced");
 }

@@ -1,19 +1,19 @@
 //! One call, made three times on equal memory: by the reference, by the bare C interface on
 //! fenced memory, and by the safe functions. Answers and all lent memory must agree, that which
-//! is only read included. The safe functions take coordinates of 32 bits; a call with wider ones
-//! is made two ways.
+//! is only read included. The safe functions take coordinates of 32 bits and one of the two tie
+//! rules; a call with wider ones or another rule is made two ways.
 
 use crate::reference::{calls, cards, Point};
 use std::collections::BTreeMap;
-use trial_archive::{check_card, sys, words, CardRefusal, Refusal};
+use trial_archive::{check_card, sys, words, CardRefusal, Refusal, TieRule};
 
 #[derive(Clone, Debug)]
 pub enum Call {
     Start { reference: Point, capacity: u64 },
     Insert { number: u64, point: Point },
     Remove { number: u64 },
-    Least,
-    Reduce { k: u64, log: Vec<u64> },
+    Least { rule: u64 },
+    Reduce { k: u64, rule: u64, log: Vec<u64> },
     Joint { first: u64, second: u64 },
     Gain { point: Point },
     Share,
@@ -29,7 +29,7 @@ impl Call {
             Call::Start { .. } => "start",
             Call::Insert { .. } => "insert",
             Call::Remove { .. } => "remove",
-            Call::Least => "least",
+            Call::Least { .. } => "least",
             Call::Reduce { .. } => "reduce",
             Call::Joint { .. } => "joint",
             Call::Gain { .. } => "gain",
@@ -62,6 +62,14 @@ impl Call {
         }
     }
 
+    /// The tie rule that it is given.
+    fn rule(&self) -> u64 {
+        match self {
+            Call::Least { rule } | Call::Reduce { rule, .. } => *rule,
+            _ => 0,
+        }
+    }
+
     /// Whether one of its coordinates has more than 32 bits.
     fn is_wide(&self) -> bool {
         self.point().is_some_and(|point| narrow(point).is_none())
@@ -82,6 +90,25 @@ pub fn insert(words: &mut [u64], number: u64, point: Point) -> u64 {
         Some(point) => words::insert(words, number, point).err().map_or(0, Refusal::number),
         // SAFETY: pointer and length are those of one slice borrowed for the call.
         None => unsafe { sys::ta_insert(words.as_mut_ptr(), words.len(), number, x, y, z) },
+    }
+}
+
+/// Reduces by the safe function, or by the C interface where the tie rule is neither of the two.
+pub fn reduce(words: &mut [u64], k: u64, rule: u64, log: &mut [u64]) -> Result<u64, Refusal> {
+    match rule {
+        0 => words::reduce(words, k, TieRule::Lowest, log),
+        1 => words::reduce(words, k, TieRule::Highest, log),
+        _ => {
+            let (len, log_len) = (words.len(), log.len());
+            // SAFETY: pointers and lengths are those of two slices borrowed mutably for the call.
+            let answer = unsafe {
+                sys::ta_reduce(words.as_mut_ptr(), len, k, rule, log.as_mut_ptr(), log_len)
+            };
+            match answer.refusal {
+                0 => Ok(answer.value),
+                row => Err(Refusal::from_number(row).expect("a row of the table")),
+            }
+        }
     }
 }
 
@@ -108,7 +135,7 @@ type Way = fn(&Call, &[u64]) -> Outcome;
 pub fn compare(call: &Call, lent: &[u64]) -> Outcome {
     let expected = by_reference(call, lent);
     let ways: [(&str, Way); 2] = [("C interface", by_c), ("safe functions", by_safe)];
-    for (way, run) in &ways[..if call.is_wide() { 1 } else { 2 }] {
+    for (way, run) in &ways[..if call.is_wide() || call.rule() > 1 { 1 } else { 2 }] {
         let found = run(call, lent);
         assert!(
             found == expected,
@@ -195,11 +222,11 @@ fn by_reference(call: &Call, lent: &[u64]) -> Outcome {
         }
         Call::Insert { number, point } => single(calls::insert(&mut words, *number, *point)),
         Call::Remove { number } => single(calls::remove(&mut words, *number)),
-        Call::Least => match calls::least(&words) {
+        Call::Least { rule } => match calls::least(&words, *rule) {
             Ok((number, contribution)) => vec![0, number, contribution],
             Err(refusal) => vec![refusal, 0, 0],
         },
-        Call::Reduce { k, .. } => double(calls::reduce(&mut words, *k, &mut log)),
+        Call::Reduce { k, rule, .. } => double(calls::reduce(&mut words, *k, *rule, &mut log)),
         Call::Joint { first, second } => double(calls::joint(&words, *first, *second)),
         Call::Gain { point } => double(calls::gain(&words, *point)),
         Call::Share => double(calls::share(&words)),
@@ -280,13 +307,13 @@ fn by_c(call: &Call, lent: &[u64]) -> Outcome {
                 vec![sys::ta_insert(words.mut_ptr(), len, *number, *x, *y, *z)]
             }
             Call::Remove { number } => vec![sys::ta_remove(words.mut_ptr(), len, *number)],
-            Call::Least => {
-                let answer = sys::ta_least(words.ptr(), len);
+            Call::Least { rule } => {
+                let answer = sys::ta_least(words.ptr(), len, *rule);
                 vec![answer.refusal, answer.number, answer.contribution]
             }
-            Call::Reduce { k, .. } => {
+            Call::Reduce { k, rule, .. } => {
                 let log_len = log.len();
-                fields(sys::ta_reduce(words.mut_ptr(), len, *k, log.mut_ptr(), log_len))
+                fields(sys::ta_reduce(words.mut_ptr(), len, *k, *rule, log.mut_ptr(), log_len))
             }
             Call::Joint { first, second } => {
                 fields(sys::ta_joint(words.ptr(), len, *first, *second))
@@ -316,17 +343,18 @@ fn by_safe(call: &Call, lent: &[u64]) -> Outcome {
     let mut memory = lent.to_vec();
     let (mut log, mut out, card) = lists(call);
     let point = narrow(call.point().unwrap_or_default()).expect("no wide coordinate");
+    let rule = if call.rule() == 1 { TieRule::Highest } else { TieRule::Lowest };
     let answer = match call {
         Call::Start { capacity, .. } => {
             single(numbered(words::start(&mut memory, point, *capacity)))
         }
         Call::Insert { number, .. } => single(numbered(words::insert(&mut memory, *number, point))),
         Call::Remove { number } => single(numbered(words::remove(&mut memory, *number))),
-        Call::Least => match words::least(&memory) {
+        Call::Least { .. } => match words::least(&memory, rule) {
             Ok(least) => vec![0, least.number, least.contribution],
             Err(refusal) => vec![refusal.number(), 0, 0],
         },
-        Call::Reduce { k, .. } => double(numbered(words::reduce(&mut memory, *k, &mut log))),
+        Call::Reduce { k, .. } => double(numbered(words::reduce(&mut memory, *k, rule, &mut log))),
         Call::Joint { first, second } => double(numbered(words::joint(&memory, *first, *second))),
         Call::Gain { .. } => double(numbered(words::gain(&memory, point))),
         Call::Share => double(numbered(words::share(&memory))),

@@ -56,8 +56,8 @@ fn run(percent: u64, size: Size) {
     tally.covers("start", &[0, 1, 4]);
     tally.covers("insert", &[0, 1, 2, 3, 5, 6, 7, 8, 13]);
     tally.covers("remove", &[0, 1, 2, 3, 9, 13]);
-    tally.covers("least", &[0, 1, 2, 3, 14]);
-    tally.covers("reduce", &[0, 1, 2, 3, 11, 12, 13]);
+    tally.covers("least", &[0, 1, 2, 3, 14, 18]);
+    tally.covers("reduce", &[0, 1, 2, 3, 11, 12, 13, 18]);
     tally.covers("joint", &[0, 1, 2, 3, 9, 10]);
     tally.covers("gain", &[0, 1, 2, 3, 6]);
     tally.covers("share", &[0, 1, 2, 3]);

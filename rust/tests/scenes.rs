@@ -283,7 +283,7 @@ pub fn call(rng: &mut Rng, shape: &Shape, words: &[u64]) -> Call {
             point: point(rng, shape, &archive),
         },
         7..=10 => Call::Remove { number: number(rng, shape, &archive, 85) },
-        11 => Call::Least,
+        11 => Call::Least { rule: rule(rng) },
         12..=14 => reduce(rng, shape, &archive),
         15 | 16 => {
             let first = number(rng, shape, &archive, 90);
@@ -333,6 +333,14 @@ fn number(rng: &mut Rng, shape: &Shape, archive: &Archive, held: u64) -> u64 {
     }
 }
 
+/// A tie rule, now and then one that there is not.
+fn rule(rng: &mut Rng) -> u64 {
+    match rng.within(0..=11) {
+        0 => rng.pick(&[2, 3, 1 << 32, 1 | 1 << 32, 1 << 63, u64::MAX]),
+        n => n % 2,
+    }
+}
+
 fn reduce(rng: &mut Rng, shape: &Shape, archive: &Archive) -> Call {
     let count = archive.count();
     let few = rng.within(0..=count.min(4));
@@ -347,7 +355,7 @@ fn reduce(rng: &mut Rng, shape: &Shape, archive: &Archive) -> Call {
     let exact = 2 * drops;
     let length =
         rng.pick(&[exact, exact, exact, exact + 1, exact + 5, exact.saturating_sub(1), exact / 2]);
-    Call::Reduce { k, log: (0..length).map(|_| rng.next()).collect() }
+    Call::Reduce { k, rule: rule(rng), log: (0..length).map(|_| rng.next()).collect() }
 }
 
 fn start(rng: &mut Rng, shape: &Shape) -> Call {

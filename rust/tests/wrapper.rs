@@ -1,6 +1,6 @@
 //! What the owning archive adds to the calls.
 
-use trial_archive::{Archive, Refusal, Trial};
+use trial_archive::{Archive, Refusal, TieRule, Trial};
 
 #[test]
 fn start_out_of_range_allocates_nothing_for_it() {
@@ -73,10 +73,30 @@ fn reductions_that_drop_nothing_or_all() {
     assert_eq!(archive.report().unwrap(), "       0       4       4       4                   0\n");
 }
 
+/// The lowest number goes by default, the highest where it is named.
+#[test]
+fn tie_rules() {
+    assert_eq!(TieRule::default(), TieRule::Lowest);
+    assert_eq!([TieRule::Lowest, TieRule::Highest].map(TieRule::number), [0, 1]);
+    let mut archive = Archive::start([4, 4, 4], 8).unwrap();
+    for number in [5, 3, 9, 7] {
+        archive.insert(number, [1, 1, 1]).unwrap();
+    }
+    assert_eq!(archive.least().unwrap().number, 3);
+    assert_eq!(archive.least_by(TieRule::Lowest).unwrap().number, 3);
+    assert_eq!(archive.least_by(TieRule::Highest).unwrap().number, 9);
+    let numbers = |drops: Vec<trial_archive::Contribution>| -> Vec<u64> {
+        drops.iter().map(|drop| drop.number).collect()
+    };
+    assert_eq!(numbers(archive.clone().reduce(1).unwrap()), [3, 5, 7]);
+    assert_eq!(numbers(archive.clone().reduce_by(1, TieRule::Lowest).unwrap()), [3, 5, 7]);
+    assert_eq!(numbers(archive.reduce_by(1, TieRule::Highest).unwrap()), [9, 7, 5]);
+}
+
 #[test]
 fn refusals_have_their_numbers() {
     let numbers: Vec<u64> = Refusal::ALL.iter().map(|r| r.number()).collect();
-    assert_eq!(numbers, (1..=16).collect::<Vec<u64>>());
+    assert_eq!(numbers, (1..=16).chain([18]).collect::<Vec<u64>>());
     for refusal in Refusal::ALL {
         assert_eq!(Refusal::from_number(refusal.number()), Some(refusal));
     }
@@ -85,5 +105,5 @@ fn refusals_have_their_numbers() {
     let mut texts: Vec<String> = Refusal::ALL.iter().map(Refusal::to_string).collect();
     texts.sort();
     texts.dedup();
-    assert_eq!(texts.len(), 16);
+    assert_eq!(texts.len(), 17);
 }

@@ -7,16 +7,16 @@ ghost use mathlib.Core.Path.{_≡_};
 ghost use Prim.Native.Nat.{_≤_};
 ghost use lib.ListN.{length};
 
-fn reduce_into(w: &mut [u64], keep: u64, log: &mut [u64], n: usize) -> Answer
+fn reduce_into(w: &mut [u64], keep: u64, rule: u64, log: &mut [u64], n: usize) -> Answer
     requires { ⌜ n ≤ length (now log) ⌝ }
 {
-    reduction::reduce(w, keep, &mut log[0..n])
+    reduction::reduce(w, keep, rule, &mut log[0..n])
 }
 
 // A reduction into a log of up to 15 words, which a refusal has to leave as it was.
 fn reduce(w: &mut [u64], row: [u64; 7]) -> Answer {
     let mut log = [7u64; 15];
-    let a = reduce_into(w, row[1], &mut log, (row[2] % 16) as usize);
+    let a = reduce_into(w, row[1], row[3], &mut log, (row[2] % 16) as usize);
     if a.refusal == 0 || testing::filled(&log, 0, 7) {
         return a;
     }
@@ -46,9 +46,9 @@ fn change(w: &mut [u64], name: u8, row: [u64; 7]) -> Answer {
     Answer::refused(written(w, name, row))
 }
 
-// The least contributor, as one number.
-fn least(w: &[u64]) -> Answer {
-    let a = ask::least(w);
+// The least contributor by a tie rule, as one number.
+fn least(w: &[u64], rule: u64) -> Answer {
+    let a = ask::least(w, rule);
     Answer {
         refusal: a.refusal,
         value: a.number % 1000000000 * 1000000000 + a.contribution % 1000000000,
@@ -58,7 +58,7 @@ fn least(w: &[u64]) -> Answer {
 // A line that asks.
 fn answer(w: &[u64], name: u8, row: [u64; 7]) -> Answer {
     if name == b'l' {
-        return least(w);
+        return least(w, row[1]);
     }
     if name == b'j' {
         return ask::joint(w, row[1], row[2]);

@@ -9,6 +9,7 @@ use hypervolume::Point;
 use records::amount_at;
 use records::least_place;
 use records::load_points;
+use records::rule_allowed;
 use records::some_differs;
 use rounding::millionths;
 use words::Row;
@@ -27,16 +28,19 @@ ghost use Rattle.calls.specs.Calls.{held-points, audited, joint-of};
 ghost use Rattle.records.specs.Columns.{place-but};
 ghost use Rattle.calls.specs.Lent.{least, share, joint, gain-answer, audit, trial-of};
 
-// Row 14 where no trial is held.
-fn least_in(w: &[u64]) -> LeastAnswer
+// Row 18 where the tie rule is neither of the two, row 14 where no trial is held.
+fn least_in(w: &[u64], rule: u64) -> LeastAnswer
     requires { ⌜ archive-rows (now w) 0 ≡ 0 ⌝ }
-    ensures { λ r. ⌜ r ≡ least (now (w .entry)) ⌝ }
+    ensures { λ r. ⌜ r ≡ least (now (w .entry)) rule ⌝ }
 {
+    if !rule_allowed(rule) {
+        return LeastAnswer::refused(18);
+    }
     let n = w[0] as usize;
     if n == 0 {
         return LeastAnswer::refused(14);
     }
-    let least = record_at(w, least_place(w, n));
+    let least = record_at(w, least_place(w, n, rule));
     LeastAnswer {
         refusal: 0,
         number: least.number,
@@ -44,15 +48,15 @@ fn least_in(w: &[u64]) -> LeastAnswer
     }
 }
 
-// Least: number and kept contribution of the least contributor.
-pub fn least(w: &[u64]) -> LeastAnswer
-    ensures { λ r. ⌜ r ≡ least (now (w .entry)) ⌝ }
+// Least (tie rule): number and kept contribution of the least contributor.
+pub fn least(w: &[u64], rule: u64) -> LeastAnswer
+    ensures { λ r. ⌜ r ≡ least (now (w .entry)) rule ⌝ }
 {
     let refused = refusal(w);
     if refused != 0 {
         return LeastAnswer::refused(refused);
     }
-    least_in(w)
+    least_in(w, rule)
 }
 
 // The place of the record at k among the others of the one at i: one lower where it comes behind it.

@@ -6,6 +6,7 @@ use mathlib.Core.Bool.{true}
 use mathlib.Core.List.{Memᴰ·map}
 use native.Mathlib.Omega.{arith}
 use lib.ListN.{length, length-map}
+use borrow.Author.Tests.{ltb-false}
 use Rattle.words.specs.Archive.{Row, Archive, trials}
 use Rattle.words.specs.Format.{held}
 use Rattle.words.proofs.Passed.{Sound}
@@ -16,82 +17,87 @@ use Rattle.calls.proofs.Members.{split}
 use Rattle.calls.proofs.Order.{held-of}
 use Rattle.calls.proofs.Counted.{removed-counted, total-removed, loss-kept, remove-fits}
 use Rattle.calls.proofs.Sound.{removed-sound}
-use Rattle.calls.proofs.Ranking.{Leads, less, ties, least-row-is, row-of-member}
+use Rattle.calls.proofs.Ranking.{Leads, less, ties, least-row-is, row-of-member, lowest-first, highest-first}
 
 -- The number of the record that goes.
-abbrev pub leaving : Archive → ℕ
-leaving a = least-row (a .rows) .trial .number
+abbrev pub leaving : (rule : ℕ) → Archive → ℕ
+leaving rule a = least-row rule (a .rows) .trial .number
 
-pub record DropKeeps (a : Archive) : Type 0 where
-  pub known : held (leaving a) (held-trials a) ≡ true
-  pub sound : Sound (dropped a)
-  pub counted : IsCounted (dropped a)
-  pub count : length (a .rows) ≡ suc (length (dropped a .rows))
-  pub sum : a .sum ≡ dropped a .sum + least-row (a .rows) .kept
+pub record DropKeeps (rule : ℕ) (a : Archive) : Type 0 where
+  pub known : held (leaving rule a) (held-trials a) ≡ true
+  pub sound : Sound (dropped rule a)
+  pub counted : IsCounted (dropped rule a)
+  pub count : length (a .rows) ≡ suc (length (dropped rule a .rows))
+  pub sum : a .sum ≡ dropped rule a .sum + least-row rule (a .rows) .kept
 
-pub drop-keeps : (a : Archive) → Sound a → IsCounted a → 0 < length (a .rows) → DropKeeps a
+pub drop-keeps : (rule : ℕ) (a : Archive) → Sound a → IsCounted a → 0 < length (a .rows) → DropKeeps rule a
 unfolding dropped removed trials
-drop-keeps a s h l =
-    let least = least-row-is (a .rows) l in
-    let known : held (leaving a) (held-trials a) ≡ true =
-    held-of (least-row (a .rows) .trial) (held-trials a) (Memᴰ·map (λ r. r .trial) (least .member)) in
-    let parts = split (leaving a) (a .rows) known (s .apart) in
-    let noted : least-row (a .rows) .kept ≡ removal-loss a (leaving a) =
-    ap (λ r. r .kept) (sym (row-of-member (a .rows) (s .apart) (least-row (a .rows)) (least .member)))
-    ∙ loss-kept a (leaving a) h parts in
+drop-keeps rule a s h l =
+    let least = least-row-is rule (a .rows) l in
+    let known : held (leaving rule a) (held-trials a) ≡ true =
+    held-of (least-row rule (a .rows) .trial) (held-trials a) (Memᴰ·map (λ r. r .trial) (least .member)) in
+    let parts = split (leaving rule a) (a .rows) known (s .apart) in
+    let noted : least-row rule (a .rows) .kept ≡ removal-loss a (leaving rule a) =
+    ap (λ r. r .kept) (sym (row-of-member (a .rows) (s .apart) (least-row rule (a .rows)) (least .member)))
+    ∙ loss-kept a (leaving rule a) h parts in
     let was = h .sum in
-    let now = total-removed a (leaving a) parts in
+    let now = total-removed a (leaving rule a) parts in
     record {
       known = known;
-      sound = removed-sound a (leaving a) s (record { known = known; fits = remove-fits a (leaving a) h parts });
-      counted = removed-counted a (leaving a) h parts;
+      sound = removed-sound a (leaving rule a) s (record { known = known; fits = remove-fits a (leaving rule a) h parts });
+      counted = removed-counted a (leaving rule a) h parts;
       count =
           parts .count
-          ∙ ap suc (sym (length-map (others (leaving a) (a .rows)) (raised (without a (leaving a)) (row-of (leaving a) (a .rows) .trial))));
+          ∙ ap suc (sym (length-map (others (leaving rule a) (a .rows)) (raised (without a (leaving rule a)) (row-of (leaving rule a) (a .rows) .trial))));
       sum = rw noted (omega arith);
     }
 
--- The least contributor by the rule of Least, in plain terms.
-least-held : (a : Archive) → IsCounted a → 0 < length (a .rows) → LeastHeld a (least-row (a .rows))
-least-held a h l =
-    let is = least-row-is (a .rows) l in
+-- The least contributor by a rule, in plain terms.
+pub least-held : (rule : ℕ) (a : Archive) → IsCounted a → 0 < length (a .rows) → LeastHeld rule a (least-row rule (a .rows))
+least-held rule a h l =
+    let is = least-row-is rule (a .rows) l in
     record {
       counted = h;
       member = is .member;
       least = λ s m. low s (is .leads s m);
-      highest = λ s m e. high s (is .leads s m) e;
+      lowest = λ e s m f. not-lower e s (is .leads s m) f;
+      highest = λ e s m f. not-higher e s (is .leads s m) f;
     }
   where
-    low : (s : Row) → Leads (least-row (a .rows)) s → least-row (a .rows) .kept ≤ s .kept
+    low : (s : Row) → Leads rule (least-row rule (a .rows)) s → least-row rule (a .rows) .kept ≤ s .kept
     low s (less k) = omega arith
     low s (ties k n) = omega arith
 
-    high : (s : Row) → Leads (least-row (a .rows)) s → s .kept ≡ least-row (a .rows) .kept → s .trial .number ≤ least-row (a .rows) .trial .number
-    high s (less k) e = absurd (let no′ : ⊥ = omega arith in no′)
-    high s (ties k n) e = n
+    not-lower : rule ≡ 0 → (s : Row) → Leads rule (least-row rule (a .rows)) s → s .kept ≡ least-row rule (a .rows) .kept → least-row rule (a .rows) .trial .number ≤ s .trial .number
+    not-lower e s (less k) f = absurd (let no′ : ⊥ = omega arith in no′)
+    not-lower e s (ties k n) f = ltb-false (s .trial .number) (least-row rule (a .rows) .trial .number) (sym (lowest-first rule e (s .trial .number) (least-row rule (a .rows) .trial .number)) ∙ n)
+
+    not-higher : rule ≡ 1 → (s : Row) → Leads rule (least-row rule (a .rows)) s → s .kept ≡ least-row rule (a .rows) .kept → s .trial .number ≤ least-row rule (a .rows) .trial .number
+    not-higher e s (less k) f = absurd (let no′ : ⊥ = omega arith in no′)
+    not-higher e s (ties k n) f = ltb-false (least-row rule (a .rows) .trial .number) (s .trial .number) (sym (highest-first rule (λ z. omega (arith, e, z)) (s .trial .number) (least-row rule (a .rows) .trial .number)) ∙ n)
 
 -- All the drops of a reduction.
-pub record DropsDown (n : ℕ) (a : Archive) : Type 0 where
-  pub drops : Drops a (notes n a) (after-drops n a)
-  pub sound : Sound (after-drops n a)
-  pub counted : IsCounted (after-drops n a)
-  pub left : length (a .rows) ≡ n + length (after-drops n a .rows)
-  pub sum : a .sum ≡ after-drops n a .sum + noted-sum (notes n a)
-  pub size : length (notes n a) ≡ 2 * n
+pub record DropsDown (rule n : ℕ) (a : Archive) : Type 0 where
+  pub drops : Drops rule a (notes rule n a) (after-drops rule n a)
+  pub sound : Sound (after-drops rule n a)
+  pub counted : IsCounted (after-drops rule n a)
+  pub left : length (a .rows) ≡ n + length (after-drops rule n a .rows)
+  pub sum : a .sum ≡ after-drops rule n a .sum + noted-sum (notes rule n a)
+  pub size : length (notes rule n a) ≡ 2 * n
 
-pub drops-down : (n : ℕ) (a : Archive) → Sound a → IsCounted a → n ≤ length (a .rows) → DropsDown n a
+pub drops-down : (rule n : ℕ) (a : Archive) → Sound a → IsCounted a → n ≤ length (a .rows) → DropsDown rule n a
 unfolding after-drops notes note noted-sum dropped
-drops-down zero a s h l = record { drops = none; sound = s; counted = h; left = omega arith; sum = omega arith; size = refl }
-drops-down (suc n) a s h l =
-    let one = drop-keeps a s h (omega arith) in
-    let fewer : length (a .rows) ≡ suc (length (dropped a .rows)) = one .count in
-    let falls : a .sum ≡ dropped a .sum + least-row (a .rows) .kept = one .sum in
-    let later = drops-down n (dropped a) (one .sound) (one .counted) (omega arith) in
-    let left : length (dropped a .rows) ≡ n + length (after-drops n (dropped a) .rows) = later .left in
-    let sum : dropped a .sum ≡ after-drops n (dropped a) .sum + noted-sum (notes n (dropped a)) = later .sum in
-    let size : length (notes n (dropped a)) ≡ 2 * n = later .size in
+drops-down rule zero a s h l = record { drops = none; sound = s; counted = h; left = omega arith; sum = omega arith; size = refl }
+drops-down rule (suc n) a s h l =
+    let one = drop-keeps rule a s h (omega arith) in
+    let fewer : length (a .rows) ≡ suc (length (dropped rule a .rows)) = one .count in
+    let falls : a .sum ≡ dropped rule a .sum + least-row rule (a .rows) .kept = one .sum in
+    let later = drops-down rule n (dropped rule a) (one .sound) (one .counted) (omega arith) in
+    let left : length (dropped rule a .rows) ≡ n + length (after-drops rule n (dropped rule a) .rows) = later .left in
+    let sum : dropped rule a .sum ≡ after-drops rule n (dropped rule a) .sum + noted-sum (notes rule n (dropped rule a)) = later .sum in
+    let size : length (notes rule n (dropped rule a)) ≡ 2 * n = later .size in
     record {
-      drops = Drops.drop (least-row (a .rows)) (least-held a h (omega arith)) (later .drops);
+      drops = Drops.drop (least-row rule (a .rows)) (least-held rule a h (omega arith)) (later .drops);
       sound = later .sound;
       counted = later .counted;
       left = omega arith;

@@ -14,7 +14,7 @@ use Rattle.words.specs.Layout.{layout, read, word, behind}
 use Rattle.words.specs.Format.{guard, archive-rows}
 use Rattle.words.proofs.Reading.{read-layout}
 use Rattle.words.proofs.Passed.{Sound, sound-passes}
-use Rattle.calls.specs.Calls.{held-points, renewed, insert-gain, joint-with, lowered, inserted, without, removal-loss, raised, removed, audited, reduce-rows}
+use Rattle.calls.specs.Calls.{held-points, renewed, insert-gain, joint-with, lowered, inserted, without, removal-loss, raised, removed, audited, rule-allowed, reduce-rows}
 use Rattle.calls.specs.Counted.{IsCounted}
 use Rattle.calls.specs.Lent.{answer, insert, remove, reduce, audit}
 use Rattle.calls.specs.Earlier.{KeptFromBefore, EarlierArchives}
@@ -65,11 +65,11 @@ module _ (w : List ℕ) (h : KeptFromBefore w) where
   unfolding holds
   says-no l = audit-is w false (h .passes) (unaudited l)
 
-  turned-down : (k : ℕ) (log : List ℕ) → 1 ≤ word w 0 → k ≤ word w 0 → 2 * (word w 0 - k) ≤ length log → reduce w k log .refusal ≡ 13
+  turned-down : (k rule : ℕ) (log : List ℕ) → 1 ≤ word w 0 → rule-allowed rule ≡ true → k ≤ word w 0 → 2 * (word w 0 - k) ≤ length log → reduce w k rule log .refusal ≡ 13
   unfolding reduce reduce-rows guard
-  turned-down k log l a b =
+  turned-down k rule log l e a b =
       leaves-refusal w log _ _ _ _ ∙ rows-passed w _ (h .passes)
-      ∙ rw (count-rows w, le-ltb (word w 0) k a, le-ltb (length log) (2 * (word w 0 - k)) b, unaudited l)
+      ∙ rw (e, count-rows w, le-ltb (word w 0) k a, le-ltb (length log) (2 * (word w 0 - k)) b, unaudited l)
 
   -- Words left by a call that is done.
   says-yes : (w′ : List ℕ) (a : Archive) → w′ ≡ layout a ++ behind w → Sound a → IsCounted a → audit w′ ≡ record { refusal = 0; value = 1 }
@@ -106,7 +106,7 @@ pub earlier : EarlierArchives
 earlier =
     record {
       audit-no = says-no;
-      reduce-13 = λ w k log h. turned-down w h k log;
+      reduce-13 = λ w k rule log h. turned-down w h k rule log;
       inserted-yes = λ w t h. after-insertion w h t;
       removed-yes = λ w n h. after-removal w h n;
       empty-yes = without-trials;

@@ -54,10 +54,10 @@ pub remove-done : (w : List ℕ) (n : ℕ) → remove w n .refusal ≡ 0 → Cal
 unfolding remove
 remove-done w n = call-done w [] (remove-rows (read w) n) 0 (removed (read w) n) []
 
-pub reduce-done : (w : List ℕ) (k : ℕ) (log : List ℕ) → reduce w k log .refusal ≡ 0
-    → CallDone w log (reduce-rows (read w) k (length log)) (length (read w .rows) - k) (after-drops (length (read w .rows) - k) (read w)) (notes (length (read w .rows) - k) (read w)) (reduce w k log)
+pub reduce-done : (w : List ℕ) (k rule : ℕ) (log : List ℕ) → reduce w k rule log .refusal ≡ 0
+    → CallDone w log (reduce-rows (read w) k rule (length log)) (length (read w .rows) - k) (after-drops rule (length (read w .rows) - k) (read w)) (notes rule (length (read w .rows) - k) (read w)) (reduce w k rule log)
 unfolding reduce
-reduce-done w k log = call-done w log _ _ _ _
+reduce-done w k rule log = call-done w log _ _ _ _
 
 -- What such a call leaves.
 module _ (w log : List ℕ) (rows value : ℕ) (a : Archive) (noted : List ℕ) (o : Outcome) (d : CallDone w log rows value a noted o) where

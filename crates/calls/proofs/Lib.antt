@@ -13,3 +13,4 @@ pub mod Answers
 pub mod Lent
 pub mod Shares
 pub mod Earlier
+pub mod Fewest

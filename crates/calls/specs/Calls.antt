@@ -117,23 +117,33 @@ remove-overruns a n =
 unfoldable pub remove-rows : Archive → ℕ → ℕ
 remove-rows a n = guard (not (held n (held-trials a))) 9 (guard (remove-overruns a n) 13 0)
 
--- Least: "the trial whose kept contribution is least; among equals the highest trial number": r goes before s.
-unfoldable pub goes-first : Row → Row → Bool
-goes-first r s =
-    either (ltb (r .kept) (s .kept)) (both (eqb (r .kept) (s .kept)) (ltb (s .trial .number) (r .trial .number)))
+-- The tie rule (document 02, W-206): "among equal least contributors the lowest trial number now goes", and jobs that "relied on the
+-- highest" "name that rule in the call: 0 the default, 1 the highest". Whether trial m goes before trial n among equals.
+unfoldable pub number-first : (rule m n : ℕ) → Bool
+number-first rule m n = pick (eqb rule 0) (ltb m n) (ltb n m)
 
-unfoldable pub least-from : Row → List Row → Row
-least-from r [] = r
-least-from r (s ∷ rows) = least-from (pick (goes-first s r) s r) rows
+-- Row 18: "tie rule neither 0 nor 1".
+unfoldable pub rule-allowed : ℕ → Bool
+rule-allowed rule = either (eqb rule 0) (eqb rule 1)
+
+-- Least: "the trial whose kept contribution is least", among equals by the tie rule: r goes before s.
+unfoldable pub goes-first : (rule : ℕ) → Row → Row → Bool
+goes-first rule r s =
+    either (ltb (r .kept) (s .kept))
+    (both (eqb (r .kept) (s .kept)) (number-first rule (r .trial .number) (s .trial .number)))
+
+unfoldable pub least-from : (rule : ℕ) → Row → List Row → Row
+least-from rule r [] = r
+least-from rule r (s ∷ rows) = least-from rule (pick (goes-first rule s r) s r) rows
 
 -- The least contributor of an archive that holds a trial.
-unfoldable pub least-row : List Row → Row
-least-row [] = row-of 0 []
-least-row (r ∷ rows) = least-from r rows
+unfoldable pub least-row : (rule : ℕ) → List Row → Row
+least-row rule [] = row-of 0 []
+least-row rule (r ∷ rows) = least-from rule r rows
 
--- The row of least.
-unfoldable pub least-rows : Archive → ℕ
-least-rows a = guard (eqb (length (a .rows)) 0) 14 0
+-- The rows of least.
+unfoldable pub least-rows : Archive → (rule : ℕ) → ℕ
+least-rows a rule = guard (not (rule-allowed rule)) 18 (guard (eqb (length (a .rows)) 0) 14 0)
 
 -- Joint: cells that both trials dominate and no third does.
 unfoldable pub joint-of : Archive → ℕ → ℕ → ℕ
@@ -167,22 +177,23 @@ audited a =
 
 -- Reduce: "drops the least contributor by that rule until k trials are held". For each drop "the number and its
 -- contribution at that moment".
-unfoldable pub dropped : Archive → Archive
-dropped a = removed a (least-row (a .rows) .trial .number)
+unfoldable pub dropped : (rule : ℕ) → Archive → Archive
+dropped rule a = removed a (least-row rule (a .rows) .trial .number)
 
-unfoldable pub note : Archive → List ℕ
-note a = least-row (a .rows) .trial .number ∷ least-row (a .rows) .kept ∷ []
+unfoldable pub note : (rule : ℕ) → Archive → List ℕ
+note rule a = least-row rule (a .rows) .trial .number ∷ least-row rule (a .rows) .kept ∷ []
 
-unfoldable pub after-drops : ℕ → Archive → Archive
-after-drops zero a = a
-after-drops (suc n) a = after-drops n (dropped a)
+unfoldable pub after-drops : (rule : ℕ) → ℕ → Archive → Archive
+after-drops rule zero a = a
+after-drops rule (suc n) a = after-drops rule n (dropped rule a)
 
-unfoldable pub notes : ℕ → Archive → List ℕ
-notes zero a = []
-notes (suc n) a = note a ++ notes n (dropped a)
+unfoldable pub notes : (rule : ℕ) → ℕ → Archive → List ℕ
+notes rule zero a = []
+notes rule (suc n) a = note rule a ++ notes rule n (dropped rule a)
 
 -- The rows of reduce; of the log only its length matters.
-unfoldable pub reduce-rows : Archive → ℕ → ℕ → ℕ
-reduce-rows a k log =
-    guard (ltb (length (a .rows)) k) 11
-    (guard (ltb log (2 * (length (a .rows) - k))) 12 (guard (not (audited a)) 13 0))
+unfoldable pub reduce-rows : Archive → (k rule log : ℕ) → ℕ
+reduce-rows a k rule log =
+    guard (not (rule-allowed rule)) 18
+    (guard (ltb (length (a .rows)) k) 11
+    (guard (ltb log (2 * (length (a .rows) - k))) 12 (guard (not (audited a)) 13 0)))

@@ -8,17 +8,19 @@ use Rattle.calls.specs.Calls.{removed}
 use Rattle.calls.specs.Counted.{IsCounted}
 
 -- r is "a least contributor among the trials then held": contributions are counted at that moment, r is held, none
--- contributes less, and "among equals" it has "the highest trial number".
-pub record LeastHeld (a : Archive) (r : Row) : Type 0 where
+-- contributes less, and among equals it has "the lowest trial number" by rule 0 and "the highest" by rule 1 (document 02,
+-- W-206).
+pub record LeastHeld (rule : ℕ) (a : Archive) (r : Row) : Type 0 where
   pub counted : IsCounted a
   pub member : List·Memᴰ r (a .rows)
   pub least : (s : Row) → List·Memᴰ s (a .rows) → r .kept ≤ s .kept
-  pub highest : (s : Row) → List·Memᴰ s (a .rows) → s .kept ≡ r .kept → s .trial .number ≤ r .trial .number
+  pub lowest : rule ≡ 0 → (s : Row) → List·Memᴰ s (a .rows) → s .kept ≡ r .kept → r .trial .number ≤ s .trial .number
+  pub highest : rule ≡ 1 → (s : Row) → List·Memᴰ s (a .rows) → s .kept ≡ r .kept → s .trial .number ≤ r .trial .number
 
 -- Drops that lead from one archive to another, with what is noted: each takes a least contributor of that moment.
-pub data Drops : Archive → List ℕ → Archive → Type 0 where
-  none : {a : Archive} → Drops a [] a
-  drop : {a b : Archive} {notes : List ℕ} (r : Row) → LeastHeld a r → Drops (removed a (r .trial .number)) notes b → Drops a (r .trial .number ∷ r .kept ∷ notes) b
+pub data Drops (rule : ℕ) : Archive → List ℕ → Archive → Type 0 where
+  none : {a : Archive} → Drops rule a [] a
+  drop : {a b : Archive} {notes : List ℕ} (r : Row) → LeastHeld rule a r → Drops rule (removed a (r .trial .number)) notes b → Drops rule a (r .trial .number ∷ r .kept ∷ notes) b
 
 -- The sum of the contributions noted: every second word.
 unfoldable pub noted-sum : List ℕ → ℕ

@@ -56,20 +56,20 @@ insert w t = leaves w [] (archive-rows w (insert-rows (read w) t)) 0 (layout (in
 unfoldable pub remove : List ℕ → ℕ → Outcome
 remove w n = leaves w [] (archive-rows w (remove-rows (read w) n)) 0 (layout (removed (read w) n) ++ behind w) []
 
--- Least: "number and kept contribution".
+-- Least (tie rule): "number and kept contribution".
 unfoldable pub least-answer : ℕ → Row → LeastAnswer
 least-answer zero r = record { refusal = 0; number = r .trial .number; contribution = r .kept }
 least-answer (suc n) r = record { refusal = suc n; number = 0; contribution = 0 }
 
-unfoldable pub least : List ℕ → LeastAnswer
-least w = least-answer (archive-rows w (least-rows (read w))) (least-row (read w .rows))
+unfoldable pub least : List ℕ → (rule : ℕ) → LeastAnswer
+least w rule = least-answer (archive-rows w (least-rows (read w) rule)) (least-row rule (read w .rows))
 
--- Reduce (k, log): "it answers the count of drops".
-unfoldable pub reduce : List ℕ → ℕ → List ℕ → Outcome
-reduce w k log =
-    leaves w log (archive-rows w (reduce-rows (read w) k (length log))) (length (read w .rows) - k)
-    (layout (after-drops (length (read w .rows) - k) (read w)) ++ behind w)
-    (notes (length (read w .rows) - k) (read w))
+-- Reduce (k, tie rule, log): "it answers the count of drops".
+unfoldable pub reduce : List ℕ → (k rule : ℕ) → List ℕ → Outcome
+reduce w k rule log =
+    leaves w log (archive-rows w (reduce-rows (read w) k rule (length log))) (length (read w .rows) - k)
+    (layout (after-drops rule (length (read w .rows) - k) (read w)) ++ behind w)
+    (notes rule (length (read w .rows) - k) (read w))
 
 -- The answer, the archive slice and the log of a reduction are those of its outcome.
 pub record MeetsOutcome (o : Outcome) (r : Answer) (words log : List ℕ) : Type 0 where

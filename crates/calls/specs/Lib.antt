@@ -6,3 +6,4 @@ pub mod Shares
 pub mod Counted
 pub mod Drops
 pub mod Earlier
+pub mod Fewest

@@ -68,16 +68,17 @@ removal-raises w n e m h d =
 
 pub reduction-drops : ReductionDrops
 unfolding ReductionDrops reduce-rows
-reduction-drops w k log e =
-    let done = reduce-done w k log e in
-    let enough = guard-none _ _ _ (done .rows) in
+reduction-drops w k rule log e =
+    let done = reduce-done w k rule log e in
+    let ruled = guard-none _ _ _ (done .rows) in
+    let enough = guard-none _ _ _ (ruled .1) in
     let room = guard-none _ _ _ (enough .1) in
     let yes = guard-none _ _ _ (room .1) in
     let most : k ≤ length (read w .rows) = ltb-false _ _ (enough .0) in
     let n : ℕ = length (read w .rows) - k in
-    let all = drops-down n (read w) (done .passed .sound) (audited-counted (read w) (not-false _ (yes .0))) (omega arith) in
-    let reads : read (reduce w k log .words) ≡ after-drops n (read w) = done-reads _ _ _ _ _ _ _ done in
-    let wrote : logged w k log ≡ notes n (read w) = rw (done .value, done .log) (take-at (notes n (read w)) _ (2 * n) (all .size)) in
+    let all = drops-down rule n (read w) (done .passed .sound) (audited-counted (read w) (not-false _ (yes .0))) (omega arith) in
+    let reads : read (reduce w k rule log .words) ≡ after-drops rule n (read w) = done-reads _ _ _ _ _ _ _ done in
+    let wrote : logged w k rule log ≡ notes rule n (read w) = rw (done .value, done .log) (take-at (notes rule n (read w)) _ (2 * n) (all .size)) in
     let left = all .left in
     record {
       drops = rw (reads, wrote) (all .drops);

@@ -13,7 +13,7 @@ use Rattle.rounding.specs.Nearest.{even-of, rounded, nearest}
 use Rattle.words.specs.Archive.{Trial, Shape, Archive, trials, points, ascends, before}
 use Rattle.words.specs.Layout.{header, record-words, records, extent, layout, read-row, read-rows, read-shape, read, behind}
 use Rattle.words.specs.Format.{guard, within, shape-allowed, number-allowed, coordinates-allowed, header-allowed, row-allowed, rows-allowed, ordered, held, distinct, zeros, unused, records-allowed, archive-rows, each, sound-rows}
-use Rattle.calls.specs.Calls.{empty, place, insert-gain, joint-with, lowered, inserted, falls-below, insert-overruns, insert-rows, admission-rows, row-of, others, without, removal-loss, raised, removed, exceeds, remove-overruns, remove-rows, goes-first, least-from, least-row, least-rows, joint-of, joint-rows, gain-rows, share-of, rows-counted, audited, dropped, note, after-drops, notes, reduce-rows}
+use Rattle.calls.specs.Calls.{empty, place, insert-gain, joint-with, lowered, inserted, falls-below, insert-overruns, insert-rows, admission-rows, row-of, others, without, removal-loss, raised, removed, exceeds, remove-overruns, remove-rows, number-first, rule-allowed, goes-first, least-from, least-row, least-rows, joint-of, joint-rows, gain-rows, share-of, rows-counted, audited, dropped, note, after-drops, notes, reduce-rows}
 use Rattle.calls.specs.Lent
 use Rattle.history.specs.Stars.{Line, step-words, step-answer, answers, asked, Star, star, Met, AllMet, usual, done, small, largest, stars}
 
@@ -21,13 +21,13 @@ small-met : AllMet small
 unfolding AllMet Met small usual done answers asked step-answer step-words Lent.start Lent.start-rows Lent.leaves
     Lent.insert Lent.remove Lent.reduce Lent.least Lent.joint Lent.gain-answer Lent.share Lent.answer
     Lent.least-answer empty place insert-gain joint-with lowered inserted falls-below insert-overruns insert-rows admission-rows
-    row-of others without removal-loss raised removed exceeds remove-overruns remove-rows goes-first least-from
+    row-of others without removal-loss raised removed exceeds remove-overruns remove-rows number-first rule-allowed goes-first least-from
     least-row least-rows joint-of joint-rows gain-rows share-of nearest rounded even-of rows-counted audited dropped note after-drops
     notes reduce-rows guard within each shape-allowed number-allowed coordinates-allowed header-allowed row-allowed rows-allowed
     ordered held distinct sound-rows zeros unused records-allowed archive-rows header record-words records extent layout read-row
     read-rows read-shape read behind trials points pick either ascends before cover total contribution joint gain both
     front unbeaten beaten beats smaller-somewhere holds dominates sum cells count box
-small-met = (refl, (refl, (refl, (refl, (refl, (refl, (refl, (refl, (refl, (refl, tt))))))))))
+small-met = (refl, (refl, (refl, (refl, (refl, (refl, (refl, (refl, (refl, (refl, (refl, tt)))))))))))
 
 -- The largest reference: the archive just started, the one trial, and the archive that holds it.
 far : Shape

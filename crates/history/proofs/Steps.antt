@@ -1,6 +1,6 @@
 -- One call on words that hold the book's fresh archive: it answers as the book does, and its words hold the fresh
 -- archive of the book after it.
-use Prim.Native.Nat.{ℕ, suc, _+_, _-_, _*_, _≤_, _<_, min, zero-le}
+use Prim.Native.Nat.{ℕ, zero, suc, _+_, _-_, _*_, _≤_, _<_, min, zero-le}
 use mathlib.Core.Path.{_≡_, refl, sym, ap, _∙_}
 use mathlib.Core.Bool.{Bool, true, false, not, true≢false}
 use mathlib.Core.List.{List, _++_, append-assoc, []}
@@ -8,7 +8,7 @@ use native.Mathlib.Omega.{arith}
 use lib.Dec.{leb, ltb, eqb}
 use lib.ListN.{length, take, drop, length-append, take-append-drop}
 use lib.Seq.{take-append-add, drop-append-add}
-use borrow.Author.Tests.{le-leb, ltb-false, not-false, eqb-false}
+use borrow.Author.Tests.{le-leb, lt-ltb, ne-eqb, ltb-false, not-false, eqb-false}
 use Rattle.slices.proofs.Choices.{not-both}
 use Rattle.slices.specs.Choices.{both, either}
 use Rattle.hypervolume.proofs.Tests.{Compared, below, above, compared, not-leb}
@@ -18,7 +18,7 @@ use Rattle.words.specs.Format.{guard, within, number-allowed, coordinates-allow
 use Rattle.words.proofs.Reading.{read-layout, length-layout, behind-layout}
 use Rattle.words.proofs.Passed.{Sound, sound-passes, each-three}
 use Rattle.words.proofs.Short.{part-short}
-use Rattle.calls.specs.Calls.{held-trials, inserted, insert-overruns, admission-rows, insert-rows, removed, remove-overruns, remove-rows, audited, after-drops, notes, reduce-rows}
+use Rattle.calls.specs.Calls.{held-trials, inserted, insert-overruns, admission-rows, insert-rows, removed, remove-overruns, remove-rows, audited, rule-allowed, after-drops, notes, reduce-rows}
 use Rattle.calls.specs.Counted.{counted}
 use Rattle.calls.proofs.Members.{split}
 use Rattle.calls.proofs.Counted.{counted-audited, counted-insert, insert-fits, remove-fits}
@@ -54,13 +54,13 @@ insert-deed t = record { rows = λ a. insert-rows a t; value = λ a. 0; new = λ
 abbrev pub remove-deed : ℕ → Deed
 remove-deed n = record { rows = λ a. remove-rows a n; value = λ a. 0; new = λ a. removed a n; noted = λ a. [] }
 
-abbrev pub reduce-deed : ℕ → List ℕ → Deed
-reduce-deed k log =
+abbrev pub reduce-deed : (k rule : ℕ) → List ℕ → Deed
+reduce-deed k rule log =
     record {
-      rows = λ a. reduce-rows a k (length log);
+      rows = λ a. reduce-rows a k rule (length log);
       value = λ a. length (a .rows) - k;
-      new = λ a. after-drops (length (a .rows) - k) a;
-      noted = λ a. notes (length (a .rows) - k) a;
+      new = λ a. after-drops rule (length (a .rows) - k) a;
+      noted = λ a. notes rule (length (a .rows) - k) a;
     }
 
 -- A turn of the book in which the call is done.
@@ -94,6 +94,13 @@ row-7 n b = rw (fresh-trials b, sorted-held n (b .trials)) (sym (has-held n (b .
 row-8 : (b : Book) → eqb (length (fresh-archive b .rows)) (fresh-archive b .shape .capacity) ≡ eqb (length (b .trials)) (b .capacity)
 unfolding fresh-archive counted shape-of-book
 row-8 b = ap (λ n. eqb n (b .capacity)) (fresh-count b)
+
+row-18 : (rule : ℕ) → not (rule-allowed rule) ≡ ltb 1 rule
+unfolding rule-allowed either
+row-18 zero = refl
+row-18 (suc zero) = refl
+row-18 (suc (suc r)) =
+    rw (ne-eqb (suc (suc r)) 0 (λ e. omega (arith, e)), ne-eqb (suc (suc r)) 1 (λ e. omega (arith, e)), lt-ltb 1 (suc (suc r)) (omega arith))
 
 -- Entering a trial in the book is inserting it into the fresh archive.
 fresh-insert : (b : Book) (t : Trial) → inserted (fresh-archive b) t ≡ fresh-archive (entered t b)
@@ -261,28 +268,29 @@ module _ (s : Shape) (rest w : List ℕ) (b : Book) (h : Holds s rest b w) where
       (λ nine. remove-done lent n part whole (not-false _ nine)))
 
   -- Reduce.
-  reduce-done : (lent k : ℕ) (log part : List ℕ) → part ++ drop lent w ≡ rest → k ≤ length (b .trials)
-      → Agree s rest w (Call.reduce lent k log) (last (Call.reduce lent k log) (reduce-deed k log) part (not (audited (fresh-archive b))))
-      (finished (thinned (length (b .trials) - k) b) (length (b .trials) - k) (book-notes (length (b .trials) - k) b))
+  reduce-done : (lent k rule : ℕ) (log part : List ℕ) → part ++ drop lent w ≡ rest → k ≤ length (b .trials)
+      → Agree s rest w (Call.reduce lent k rule log) (last (Call.reduce lent k rule log) (reduce-deed k rule log) part (not (audited (fresh-archive b))))
+      (finished (thinned rule (length (b .trials) - k) b) (length (b .trials) - k) (book-notes rule (length (b .trials) - k) b))
   unfolding lent-of
-  reduce-done lent k log part whole l =
-      let all = thins (length (b .trials) - k) b (h .sound) (omega arith) in
+  reduce-done lent k rule log part whole l =
+      let all = thins rule (length (b .trials) - k) b (h .sound) (omega arith) in
       rw (never 13 (not (audited (fresh-archive b))) (ap not (counted-audited (fresh-archive b) (fresh-counted b))), fresh-count b)
-      (agree-done (Call.reduce lent k log) (after-drops (length (b .trials) - k) (fresh-archive b))
-      (thinned (length (b .trials) - k) b) (length (b .trials) - k) part _ _ whole
+      (agree-done (Call.reduce lent k rule log) (after-drops rule (length (b .trials) - k) (fresh-archive b))
+      (thinned rule (length (b .trials) - k) b) (length (b .trials) - k) part _ _ whole
       (all .left) (rw (all .left) (all .sound)) (all .shape ∙ h .shape) (all .noted))
 
-  step-reduce : (lent k : ℕ) (log : List ℕ)
-      → Agree s rest w (Call.reduce lent k log) (Lent.reduce (take lent w) k log) (book-reduce (min lent (length w)) k (length log) b)
+  step-reduce : (lent k rule : ℕ) (log : List ℕ)
+      → Agree s rest w (Call.reduce lent k rule log) (Lent.reduce (take lent w) k rule log) (book-reduce (min lent (length w)) k rule (length log) b)
   unfolding Lent.reduce book-reduce lent-of log-of reduce-rows
-  step-reduce lent k log =
-      agree-part c (reduce-deed k log) _
-      (λ part whole. agree-guard c _ _ _ _ _ _ _ _ (ap (λ n. ltb n k) (fresh-count b))
+  step-reduce lent k rule log =
+      agree-part c (reduce-deed k rule log) _
+      (λ part whole. agree-guard c _ _ _ _ _ _ _ _ (row-18 rule)
+      (λ eighteen. agree-guard c _ _ _ _ _ _ _ _ (ap (λ n. ltb n k) (fresh-count b))
       (λ eleven. agree-guard c _ _ _ _ _ _ _ _ (ap (λ n. ltb (length log) (2 * (n - k))) (fresh-count b))
-      (λ twelve. reduce-done lent k log part whole (enough eleven))))
+      (λ twelve. reduce-done lent k rule log part whole (enough eleven)))))
     where
       c : Call
-      c = Call.reduce lent k log
+      c = Call.reduce lent k rule log
 
       enough : ltb (length (fresh-archive b .rows)) k ≡ false → k ≤ length (b .trials)
       enough e = rw (← fresh-count b) (ltb-false _ _ e)
@@ -292,4 +300,4 @@ module _ (s : Shape) (rest w : List ℕ) (b : Book) (h : Holds s rest b w) where
   unfolding on-words book-turn request
   step (Call.insert lent t) = step-insert lent t
   step (Call.remove lent n) = step-remove lent n
-  step (Call.reduce lent k log) = step-reduce lent k log
+  step (Call.reduce lent k rule log) = step-reduce lent k rule log

@@ -7,19 +7,20 @@ use mathlib.Core.List.{List, _∷_, map, []}
 use native.Mathlib.Omega.{arith}
 use lib.Dec.{ltb}
 use lib.ListN.{length, length-map}
+use borrow.Author.Tests.{le-ltb}
 use Rattle.hypervolume.proofs.Tests.{Compared, below, above, compared}
 use Rattle.hypervolume.proofs.Counting.{contribution-same}
 use Rattle.words.specs.Archive.{Trial, Row, point, points}
 use Rattle.slices.specs.Choices.{pick}
 use Rattle.words.specs.Format.{held, distinct}
 use Rattle.words.proofs.Passed.{Sound}
-use Rattle.calls.specs.Calls.{held-trials, without, removed, least-row, dropped, note, after-drops, notes}
+use Rattle.calls.specs.Calls.{held-trials, without, removed, number-first, least-row, dropped, note, after-drops, notes}
 use Rattle.calls.specs.Counted.{IsCounted, counted-row, counted}
 use Rattle.calls.proofs.Members.{map-on, map-members}
 use Rattle.calls.proofs.Counted.{counted-trials, counted-is-counted, counted-remove}
-use Rattle.calls.proofs.Ranking.{less, ties, leads-self, Leader, LeastOf, least-alone, least-settled, least-row-is, least-one}
+use Rattle.calls.proofs.Ranking.{highest-first, less, ties, leads-self, Leader, LeastOf, least-alone, least-settled, least-row-is, least-one}
 use Rattle.calls.proofs.Drops.{leaving, drop-keeps}
-use Rattle.history.specs.Book.{Book, counted-contribution, rather, least-of, least-trial, struck, struck-out, book-note, thinned, book-notes}
+use Rattle.history.specs.Book.{Book, counted-contribution, rather, at-a-tie, least-of, least-trial, struck, struck-out, book-note, thinned, book-notes}
 use Rattle.history.specs.History.{sorted, shape-of-book, fresh-archive}
 use Rattle.history.proofs.Fronts.{book-front-is}
 use Rattle.history.proofs.Sorting.{sorted-length, sorted-distinct, sorted-cover, sorted-member, member-sorted, struck-trials, sorted-struck}
@@ -28,10 +29,27 @@ use Rattle.history.proofs.Sorting.{sorted-length, sorted-distinct, sort
 unfoldable pub book-row : Book → Trial → Row
 book-row b t = record { trial = t; kept = counted-contribution b t }
 
-book-leader : (b : Book) (t u : Trial) → Leader (book-row b (rather b t u)) (book-row b t) (book-row b u)
+-- The one of two alike that goes at a tie, and the other.
+tie-leader : (rule : ℕ) (b : Book) (t u : Trial) → counted-contribution b t ≡ counted-contribution b u
+    → Leader rule (book-row b (at-a-tie rule t u)) (book-row b t) (book-row b u)
+unfolding at-a-tie pick book-row number-first
+tie-leader zero b t u e = go (ltb (t .number) (u .number)) (compared (suc (t .number)) (u .number))
+  where
+    go : (z : Bool) → Compared (suc (t .number)) (u .number) z → Leader zero (book-row b (pick z t u)) (book-row b t) (book-row b u)
+    go true (below r) = record { one = inl refl; first = leads-self zero (book-row b t); second = ties e (le-ltb (u .number) (t .number) (omega arith)) }
+    go false (above r) = record { one = inr refl; first = ties (sym e) (le-ltb (t .number) (u .number) (omega arith)); second = leads-self zero (book-row b u) }
+tie-leader (suc rule) b t u e = go (ltb (u .number) (t .number)) (compared (suc (u .number)) (t .number))
+  where
+    highest : (m n : ℕ) → number-first (suc rule) m n ≡ ltb n m
+    highest m n = highest-first (suc rule) (λ z. omega (arith, z)) m n
+
+    go : (z : Bool) → Compared (suc (u .number)) (t .number) z → Leader (suc rule) (book-row b (pick z t u)) (book-row b t) (book-row b u)
+    go true (below r) = record { one = inl refl; first = leads-self (suc rule) (book-row b t); second = ties e (highest (u .number) (t .number) ∙ le-ltb (t .number) (u .number) (omega arith)) }
+    go false (above r) = record { one = inr refl; first = ties (sym e) (highest (t .number) (u .number) ∙ le-ltb (u .number) (t .number) (omega arith)); second = leads-self (suc rule) (book-row b u) }
+
+book-leader : (rule : ℕ) (b : Book) (t u : Trial) → Leader rule (book-row b (rather rule b t u)) (book-row b t) (book-row b u)
 unfolding rather pick book-row
-book-leader b t u =
-    go (ltb k l) (ltb l k) (ltb (u .number) (t .number)) (compared (suc k) l) (compared (suc l) k) (compared (suc (u .number)) (t .number))
+book-leader rule b t u = go (ltb k l) (ltb l k) (compared (suc k) l) (compared (suc l) k)
   where
     k : ℕ
     k = counted-contribution b t
@@ -39,26 +57,22 @@ book-leader b t u =
     l : ℕ
     l = counted-contribution b u
 
-    go : (x y z : Bool) → Compared (suc k) l x → Compared (suc l) k y → Compared (suc (u .number)) (t .number) z
-        → Leader (book-row b (pick x t (pick y u (pick z t u)))) (book-row b t) (book-row b u)
-    go true y z (below p) q r = record { one = inl refl; first = leads-self (book-row b t); second = less p }
-    go false true z (above p) (below q) r = record { one = inr refl; first = less q; second = leads-self (book-row b u) }
-    go false false true (above p) (above q) (below r) =
-        record { one = inl refl; first = leads-self (book-row b t); second = ties (omega arith) (omega arith) }
-    go false false false (above p) (above q) (above r) =
-        record { one = inr refl; first = ties (omega arith) (omega arith); second = leads-self (book-row b u) }
+    go : (x y : Bool) → Compared (suc k) l x → Compared (suc l) k y → Leader rule (book-row b (pick x t (pick y u (at-a-tie rule t u)))) (book-row b t) (book-row b u)
+    go true y (below p) q = record { one = inl refl; first = leads-self rule (book-row b t); second = less p }
+    go false true (above p) (below q) = record { one = inr refl; first = less q; second = leads-self rule (book-row b u) }
+    go false false (above p) (above q) = tie-leader rule b t u (omega arith)
 
-book-least-of : (b : Book) (t : Trial) (ts : List Trial) → LeastOf (book-row b (least-of b t ts)) (map (book-row b) (t ∷ ts))
+book-least-of : (rule : ℕ) (b : Book) (t : Trial) (ts : List Trial) → LeastOf rule (book-row b (least-of rule b t ts)) (map (book-row b) (t ∷ ts))
 unfolding least-of
-book-least-of b t [] = least-alone (book-row b t)
-book-least-of b t (u ∷ ts) =
-    least-settled _ (book-row b (rather b t u)) (book-row b t) (book-row b u) (map (book-row b) ts)
-    (book-leader b t u) (book-least-of b (rather b t u) ts)
+book-least-of rule b t [] = least-alone rule (book-row b t)
+book-least-of rule b t (u ∷ ts) =
+    least-settled rule _ (book-row b (rather rule b t u)) (book-row b t) (book-row b u) (map (book-row b) ts)
+    (book-leader rule b t u) (book-least-of rule b (rather rule b t u) ts)
 
-pub book-least : (b : Book) (ts : List Trial) → 0 < length ts → LeastOf (book-row b (least-trial b ts)) (map (book-row b) ts)
+pub book-least : (rule : ℕ) (b : Book) (ts : List Trial) → 0 < length ts → LeastOf rule (book-row b (least-trial rule b ts)) (map (book-row b) ts)
 unfolding least-trial
-book-least b [] l = absurd (let no′ : ⊥ = omega arith in no′)
-book-least b (t ∷ ts) l = book-least-of b t ts
+book-least rule b [] l = absurd (let no′ : ⊥ = omega arith in no′)
+book-least rule b (t ∷ ts) l = book-least-of rule b t ts
 
 -- The records of the fresh archive are the book's, in order.
 pub fresh-rows : (b : Book) → fresh-archive b .rows ≡ map (book-row b) (sorted (b .trials))
@@ -80,17 +94,17 @@ fresh-counted b = rw (fresh-is b) (counted-is-counted (shape-of-book b) (sorted 
 pub fresh-count : (b : Book) → length (fresh-archive b .rows) ≡ length (b .trials)
 fresh-count b = rw (fresh-rows b, length-map (sorted (b .trials)) (book-row b)) (sorted-length (b .trials))
 
-fresh-least : (b : Book) → 0 < length (b .trials)
-    → (least-row (fresh-archive b .rows) .kept ≡ counted-contribution b (least-trial b (b .trials))) × (leaving (fresh-archive b) ≡ least-trial b (b .trials) .number)
+fresh-least : (rule : ℕ) (b : Book) → 0 < length (b .trials)
+    → (least-row rule (fresh-archive b .rows) .kept ≡ counted-contribution b (least-trial rule b (b .trials))) × (leaving rule (fresh-archive b) ≡ least-trial rule b (b .trials) .number)
 unfolding book-row
-fresh-least b l =
+fresh-least rule b l =
     rw (fresh-rows b)
-    (least-one _ (book-row b (least-trial b (b .trials)))
+    (least-one rule _ (book-row b (least-trial rule b (b .trials)))
     (map (book-row b) (sorted (b .trials))) (map (book-row b) (b .trials))
     (map-members (book-row b) _ _ (λ t. sorted-member t (b .trials)))
     (map-members (book-row b) _ _ (λ t. member-sorted t (b .trials)))
-    (least-row-is (map (book-row b) (sorted (b .trials))) (omega (arith, length-map (sorted (b .trials)) (book-row b), sorted-length (b .trials))))
-    (book-least b (b .trials) l))
+    (least-row-is rule (map (book-row b) (sorted (b .trials))) (omega (arith, length-map (sorted (b .trials)) (book-row b), sorted-length (b .trials))))
+    (book-least rule b (b .trials) l))
 
 pub fresh-trials : (b : Book) → held-trials (fresh-archive b) ≡ sorted (b .trials)
 unfolding fresh-archive
@@ -110,19 +124,19 @@ fresh-remove b n s h =
     ∙ sym (fresh-is (struck n b))
 
 -- One drop, on the archive and in the book.
-pub record DropsAlike (b : Book) : Type 0 where
-  pub noted : note (fresh-archive b) ≡ book-note b
-  pub left : dropped (fresh-archive b) ≡ fresh-archive (struck (least-trial b (b .trials) .number) b)
-  pub sound : Sound (fresh-archive (struck (least-trial b (b .trials) .number) b))
-  pub count : length (b .trials) ≡ suc (length (struck (least-trial b (b .trials) .number) b .trials))
+pub record DropsAlike (rule : ℕ) (b : Book) : Type 0 where
+  pub noted : note rule (fresh-archive b) ≡ book-note rule b
+  pub left : dropped rule (fresh-archive b) ≡ fresh-archive (struck (least-trial rule b (b .trials) .number) b)
+  pub sound : Sound (fresh-archive (struck (least-trial rule b (b .trials) .number) b))
+  pub count : length (b .trials) ≡ suc (length (struck (least-trial rule b (b .trials) .number) b .trials))
 
-pub drops-alike : (b : Book) → Sound (fresh-archive b) → 0 < length (b .trials) → DropsAlike b
+pub drops-alike : (rule : ℕ) (b : Book) → Sound (fresh-archive b) → 0 < length (b .trials) → DropsAlike rule b
 unfolding note book-note
-drops-alike b s l =
-    let least = fresh-least b l in
-    let kept = drop-keeps (fresh-archive b) s (fresh-counted b) (rw (fresh-count b) l) in
-    let left : dropped (fresh-archive b) ≡ fresh-archive (struck (least-trial b (b .trials) .number) b) =
-    rw (← least .1) (unfold dropped in fresh-remove b (leaving (fresh-archive b)) s (kept .known)) in
+drops-alike rule b s l =
+    let least = fresh-least rule b l in
+    let kept = drop-keeps rule (fresh-archive b) s (fresh-counted b) (rw (fresh-count b) l) in
+    let left : dropped rule (fresh-archive b) ≡ fresh-archive (struck (least-trial rule b (b .trials) .number) b) =
+    rw (← least .1) (unfold dropped in fresh-remove b (leaving rule (fresh-archive b)) s (kept .known)) in
     record {
       noted = rw (least .0, least .1);
       left = left;
@@ -135,19 +149,19 @@ unfolding struck shape-of-book
 struck-shape n b = refl
 
 -- A whole reduction: n drops.
-pub record Thins (n : ℕ) (b : Book) : Type 0 where
-  pub left : after-drops n (fresh-archive b) ≡ fresh-archive (thinned n b)
-  pub noted : notes n (fresh-archive b) ≡ book-notes n b
-  pub sound : Sound (fresh-archive (thinned n b))
-  pub shape : shape-of-book (thinned n b) ≡ shape-of-book b
+pub record Thins (rule n : ℕ) (b : Book) : Type 0 where
+  pub left : after-drops rule n (fresh-archive b) ≡ fresh-archive (thinned rule n b)
+  pub noted : notes rule n (fresh-archive b) ≡ book-notes rule n b
+  pub sound : Sound (fresh-archive (thinned rule n b))
+  pub shape : shape-of-book (thinned rule n b) ≡ shape-of-book b
 
-pub thins : (n : ℕ) (b : Book) → Sound (fresh-archive b) → n ≤ length (b .trials) → Thins n b
+pub thins : (rule n : ℕ) (b : Book) → Sound (fresh-archive b) → n ≤ length (b .trials) → Thins rule n b
 unfolding after-drops notes thinned book-notes
-thins zero b s l = record { left = refl; noted = refl; sound = s; shape = refl }
-thins (suc n) b s l =
-    let drop = drops-alike b s (omega arith) in
+thins rule zero b s l = record { left = refl; noted = refl; sound = s; shape = refl }
+thins rule (suc n) b s l =
+    let drop = drops-alike rule b s (omega arith) in
     let one = drop .count in
-    let later = thins n (struck (least-trial b (b .trials) .number) b) (drop .sound) (omega arith) in
+    let later = thins rule n (struck (least-trial rule b (b .trials) .number) b) (drop .sound) (omega arith) in
     record {
       left = rw (drop .left) (later .left);
       noted = rw (drop .noted, drop .left, later .noted);

@@ -24,7 +24,7 @@ pub record Book : Type 0 where
 pub data Request : Type 0 where
   insert : (slice : ℕ) (trial : Trial) → Request
   remove : (slice : ℕ) (number : ℕ) → Request
-  reduce : (slice : ℕ) (k : ℕ) (log : ℕ) → Request
+  reduce : (slice : ℕ) (k rule : ℕ) (log : ℕ) → Request
 
 -- What the book answers: a refusal number, or 0; how many trials a reduce struck out; what it noted.
 pub record Reply : Type 0 where
@@ -93,55 +93,64 @@ book-remove slice n b =
 unfoldable pub counted-contribution : Book → Trial → ℕ
 counted-contribution b t = contribution (b .rx ∷ b .ry ∷ b .rz ∷ []) (map point (b .trials)) (point t)
 
--- "The least goes, among equals by the rule of Least" (the highest trial number): the one of t and u that goes.
-unfoldable pub rather : Book → Trial → Trial → Trial
-rather b t u =
+-- "Among equal least contributors the lowest trial number now goes"; "1 the highest" (document 02, W-206): the one of t and u that
+-- goes where they contribute alike.
+unfoldable pub at-a-tie : (rule : ℕ) → Trial → Trial → Trial
+at-a-tie zero t u = pick (ltb (t .number) (u .number)) t u
+at-a-tie (suc other) t u = pick (ltb (u .number) (t .number)) t u
+
+-- "The least goes, among equals by the rule of Least": the one of t and u that goes.
+unfoldable pub rather : (rule : ℕ) → Book → Trial → Trial → Trial
+rather rule b t u =
     pick (ltb (counted-contribution b t) (counted-contribution b u)) t
-    (pick (ltb (counted-contribution b u) (counted-contribution b t)) u (pick (ltb (u .number) (t .number)) t u))
+    (pick (ltb (counted-contribution b u) (counted-contribution b t)) u (at-a-tie rule t u))
 
-unfoldable pub least-of : Book → Trial → List Trial → Trial
-least-of b t [] = t
-least-of b t (u ∷ ts) = least-of b (rather b t u) ts
+unfoldable pub least-of : (rule : ℕ) → Book → Trial → List Trial → Trial
+least-of rule b t [] = t
+least-of rule b t (u ∷ ts) = least-of rule b (rather rule b t u) ts
 
-unfoldable pub least-trial : Book → List Trial → Trial
-least-trial b [] = record { number = 0; x = 0; y = 0; z = 0 }
-least-trial b (t ∷ ts) = least-of b t ts
+unfoldable pub least-trial : (rule : ℕ) → Book → List Trial → Trial
+least-trial rule b [] = record { number = 0; x = 0; y = 0; z = 0 }
+least-trial rule b (t ∷ ts) = least-of rule b t ts
 
 -- "The book notes its number and that count."
-unfoldable pub book-note : Book → List ℕ
-book-note b =
-    least-trial b (b .trials) .number ∷ counted-contribution b (least-trial b (b .trials)) ∷ []
+unfoldable pub book-note : (rule : ℕ) → Book → List ℕ
+book-note rule b =
+    least-trial rule b (b .trials) .number ∷ counted-contribution b (least-trial rule b (b .trials)) ∷ []
 
 -- "Strikes out one trial at a time": n of them.
-unfoldable pub thinned : ℕ → Book → Book
-thinned zero b = b
-thinned (suc n) b = thinned n (struck (least-trial b (b .trials) .number) b)
+unfoldable pub thinned : (rule : ℕ) → ℕ → Book → Book
+thinned rule zero b = b
+thinned rule (suc n) b = thinned rule n (struck (least-trial rule b (b .trials) .number) b)
 
-unfoldable pub book-notes : ℕ → Book → List ℕ
-book-notes zero b = []
-book-notes (suc n) b = book-note b ++ book-notes n (struck (least-trial b (b .trials) .number) b)
+unfoldable pub book-notes : (rule : ℕ) → ℕ → Book → List ℕ
+book-notes rule zero b = []
+book-notes rule (suc n) b =
+    book-note rule b ++ book-notes rule n (struck (least-trial rule b (b .trials) .number) b)
 
--- Rows 11 and 12; then reduce strikes out "until k remain" and "answers how many it struck out".
-unfoldable pub book-reduce : ℕ → ℕ → ℕ → Book → Turn
-book-reduce slice k log b =
+-- Row 18, a "tie rule neither 0 nor 1", and rows 11 and 12; then reduce strikes out "until k remain" and "answers how many it
+-- struck out".
+unfoldable pub book-reduce : (slice k rule log : ℕ) → Book → Turn
+book-reduce slice k rule log b =
     row-1 slice b
+    (refuse-if (ltb 1 rule) 18 b
     (refuse-if (ltb (length (b .trials)) k) 11 b
     (refuse-if (ltb log (2 * (length (b .trials) - k))) 12 b
     (record {
-      book = thinned (length (b .trials) - k) b;
+      book = thinned rule (length (b .trials) - k) b;
       reply =
           record {
             refusal = 0;
             value = length (b .trials) - k;
-            notes = book-notes (length (b .trials) - k) b;
+            notes = book-notes rule (length (b .trials) - k) b;
           };
-    })))
+    }))))
 
 -- One call on the book.
 unfoldable pub book-turn : Request → Book → Turn
 book-turn (insert slice t) b = book-insert slice t b
 book-turn (remove slice n) b = book-remove slice n b
-book-turn (reduce slice k log) b = book-reduce slice k log b
+book-turn (reduce slice k rule log) b = book-reduce slice k rule log b
 
 -- "On the front: those for which no other trial is at most equal on all axes and smaller on at least one" (document 02, W-209).
 -- Whether t is so beside u; whether no trial of a list is so beside t; how many trials of a list no trial of all is so beside.

@@ -17,18 +17,18 @@ use Rattle.history.specs.Book.{Book, Request, Reply, book-turn, book-fro
 pub data Call : Type 0 where
   insert : (lent : ℕ) (trial : Trial) → Call
   remove : (lent : ℕ) (number : ℕ) → Call
-  reduce : (lent : ℕ) (k : ℕ) (log : List ℕ) → Call
+  reduce : (lent : ℕ) (k rule : ℕ) (log : List ℕ) → Call
 
 -- What the call does to the words that it is lent.
 unfoldable pub on-words : Call → List ℕ → Outcome
 on-words (insert lent t) w = Lent.insert (take lent w) t
 on-words (remove lent n) w = Lent.remove (take lent w) n
-on-words (reduce lent k log) w = Lent.reduce (take lent w) k log
+on-words (reduce lent k rule log) w = Lent.reduce (take lent w) k rule log
 
 unfoldable pub lent-of : Call → ℕ
 lent-of (insert lent t) = lent
 lent-of (remove lent n) = lent
-lent-of (reduce lent k log) = lent
+lent-of (reduce lent k rule log) = lent
 
 -- The words after the call: the part lent as the call leaves it, then the rest.
 unfoldable pub words-after : Call → List ℕ → List ℕ
@@ -56,13 +56,13 @@ run-answers (c ∷ calls) w = answered (on-words c w) ∷ run-answers calls (wor
 unfoldable pub request : ℕ → Call → Request
 request size (insert lent t) = Request.insert (min lent size) t
 request size (remove lent n) = Request.remove (min lent size) n
-request size (reduce lent k log) = Request.reduce (min lent size) k (length log)
+request size (reduce lent k rule log) = Request.reduce (min lent size) k rule (length log)
 
 -- The log that a call brings.
 unfoldable pub log-of : Call → List ℕ
 log-of (insert lent t) = []
 log-of (remove lent n) = []
-log-of (reduce lent k log) = log
+log-of (reduce lent k rule log) = log
 
 -- The answer that the book's reply asks for: "the noted pairs in order, then its words as before".
 unfoldable pub expected : Call → Reply → Answered

@@ -45,15 +45,15 @@ RemovalRaises =
     (w : List ℕ) (n : ℕ) → remove w n .refusal ≡ 0 → (m : ℕ) → Held w m → (m ≡ n → ⊥) → Raised w n m
 
 -- What a reduction wrote into the log: a number and a contribution for each drop.
-abbrev pub logged : List ℕ → ℕ → List ℕ → List ℕ
-logged w k log = take (2 * reduce w k log .value) (reduce w k log .log)
+abbrev pub logged : List ℕ → (k rule : ℕ) → List ℕ → List ℕ
+logged w k rule log = take (2 * reduce w k rule log .value) (reduce w k rule log .log)
 
-pub record Reduced (w : List ℕ) (k : ℕ) (log : List ℕ) : Type 0 where
-  pub drops : Drops (read w) (logged w k log) (read (reduce w k log .words))
-  pub left : length (read (reduce w k log .words) .rows) ≡ k
-  pub adds-up : read w .sum ≡ read (reduce w k log .words) .sum + noted-sum (logged w k log)
+pub record Reduced (w : List ℕ) (k rule : ℕ) (log : List ℕ) : Type 0 where
+  pub drops : Drops rule (read w) (logged w k rule log) (read (reduce w k rule log .words))
+  pub left : length (read (reduce w k rule log .words) .rows) ≡ k
+  pub adds-up : read w .sum ≡ read (reduce w k rule log .words) .sum + noted-sum (logged w k rule log)
 
 -- "Each drop of a reduction takes a least contributor among the trials then held, and the contributions that a
 -- reduction logs add up to the total before it less the total after it."
 unfoldable pub ReductionDrops : Type 0
-ReductionDrops = (w : List ℕ) (k : ℕ) (log : List ℕ) → reduce w k log .refusal ≡ 0 → Reduced w k log
+ReductionDrops = (w : List ℕ) (k rule : ℕ) (log : List ℕ) → reduce w k rule log .refusal ≡ 0 → Reduced w k rule log

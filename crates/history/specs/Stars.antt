@@ -14,8 +14,8 @@ use Rattle.calls.specs.Lent.{trial-of}
 pub data Step : Type 0 where
   insert : (number x y z : ℕ) → Step
   remove : (number : ℕ) → Step
-  reduce : (k : ℕ) (log : List ℕ) → Step
-  least : Step
+  reduce : (k rule : ℕ) (log : List ℕ) → Step
+  least : (rule : ℕ) → Step
   joint : (m n : ℕ) → Step
   gain : (x y z : ℕ) → Step
   share : Step
@@ -26,8 +26,8 @@ pub data Step : Type 0 where
 unfoldable pub step-words : Step → List ℕ → List ℕ
 step-words (insert n x y z) w = Lent.insert w (trial-of n x y z) .words
 step-words (remove n) w = Lent.remove w n .words
-step-words (reduce k log) w = Lent.reduce w k log .words
-step-words least w = w
+step-words (reduce k rule log) w = Lent.reduce w k rule log .words
+step-words (least rule) w = w
 step-words (joint m n) w = w
 step-words (gain x y z) w = w
 step-words share w = w
@@ -39,9 +39,10 @@ step-words (contribution n) w = w
 unfoldable pub step-answer : Step → List ℕ → List ℕ
 step-answer (insert n x y z) w = Lent.insert w (trial-of n x y z) .refusal ∷ []
 step-answer (remove n) w = Lent.remove w n .refusal ∷ []
-step-answer (reduce k log) w =
-    Lent.reduce w k log .refusal ∷ Lent.reduce w k log .value ∷ Lent.reduce w k log .log
-step-answer least w = Lent.least w .refusal ∷ Lent.least w .number ∷ Lent.least w .contribution ∷ []
+step-answer (reduce k rule log) w =
+    Lent.reduce w k rule log .refusal ∷ Lent.reduce w k rule log .value ∷ Lent.reduce w k rule log .log
+step-answer (least rule) w =
+    Lent.least w rule .refusal ∷ Lent.least w rule .number ∷ Lent.least w rule .contribution ∷ []
 step-answer (joint m n) w = Lent.joint w m n .refusal ∷ Lent.joint w m n .value ∷ []
 step-answer (gain x y z) w =
     Lent.gain-answer w (trial-of 0 x y z) .refusal
@@ -86,18 +87,18 @@ done s = gives s (0 ∷ [])
 unfoldable pub small : List Star
 small =
     -- 1. "Empty: total 0; least gives 14."
-    star usual (gives total (0 ∷ []) ∷ gives least (14 ∷ 0 ∷ 0 ∷ []) ∷ [])
+    star usual (gives total (0 ∷ []) ∷ gives (least 0) (14 ∷ 0 ∷ 0 ∷ []) ∷ [])
     -- 2. "(0,0,0): total and contribution 64."
     ∷ star usual (done (insert 1 0 0 0) ∷ gives total (64 ∷ []) ∷ gives (contribution 1) (64 ∷ []) ∷ [])
     -- 3. "(4,0,0): accepted, contributes 0." And since document 02, W-201: "(5,0,0) is accepted and contributes 0."
     -- Least tells a trial that contributes 0 from none held.
     ∷ star usual
-    (done (insert 1 4 0 0) ∷ gives (contribution 1) (0 ∷ []) ∷ gives least (0 ∷ 1 ∷ 0 ∷ []) ∷ [])
+    (done (insert 1 4 0 0) ∷ gives (contribution 1) (0 ∷ []) ∷ gives (least 0) (0 ∷ 1 ∷ 0 ∷ []) ∷ [])
     ∷ star usual
     (gives (gain 5 0 0) (0 ∷ 0 ∷ [])
     ∷ done (insert 1 5 0 0)
     ∷ gives (contribution 1) (0 ∷ [])
-    ∷ gives least (0 ∷ 1 ∷ 0 ∷ [])
+    ∷ gives (least 0) (0 ∷ 1 ∷ 0 ∷ [])
     ∷ gives total (0 ∷ [])
     ∷ [])
     -- 4. "(1,1,1) twice, as 1 and 2: total 27, both 0. After 2 is removed, 1 has 27."
@@ -134,15 +135,26 @@ small =
     ∷ done (remove 3)
     ∷ gives (joint 1 2) (0 ∷ 8 ∷ [])
     ∷ [])
-    -- 8. "All four of the card, reduced to 2: log 4, 1, 3, 4; total 16; trials 1 and 2 have 4 each." 11. "The card's
-    -- share is 328,125."
+    -- 8. "All four of the card, reduced to 2": by document 02, W-206, "log becomes 4, 1, 1, 4 by default, leaving trials 2 and 3
+    -- with 4 each". 11. "The card's share is 328,125."
     ∷ star usual
     (done (insert 1 1 2 2)
     ∷ done (insert 2 2 1 2)
     ∷ done (insert 3 2 2 1)
     ∷ done (insert 4 1 1 3)
     ∷ gives share (0 ∷ 328125 ∷ [])
-    ∷ gives (reduce 2 (0 ∷ 0 ∷ 0 ∷ 0 ∷ [])) (0 ∷ 2 ∷ 4 ∷ 1 ∷ 3 ∷ 4 ∷ [])
+    ∷ gives (reduce 2 0 (0 ∷ 0 ∷ 0 ∷ 0 ∷ [])) (0 ∷ 2 ∷ 4 ∷ 1 ∷ 1 ∷ 4 ∷ [])
+    ∷ gives total (16 ∷ [])
+    ∷ gives (contribution 2) (4 ∷ [])
+    ∷ gives (contribution 3) (4 ∷ [])
+    ∷ [])
+    -- "Under 1 the case is unchanged": "log 4, 1, 3, 4; total 16; trials 1 and 2 have 4 each."
+    ∷ star usual
+    (done (insert 1 1 2 2)
+    ∷ done (insert 2 2 1 2)
+    ∷ done (insert 3 2 2 1)
+    ∷ done (insert 4 1 1 3)
+    ∷ gives (reduce 2 1 (0 ∷ 0 ∷ 0 ∷ 0 ∷ [])) (0 ∷ 2 ∷ 4 ∷ 1 ∷ 3 ∷ 4 ∷ [])
     ∷ gives total (16 ∷ [])
     ∷ gives (contribution 1) (4 ∷ [])
     ∷ gives (contribution 2) (4 ∷ [])

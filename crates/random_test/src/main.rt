@@ -41,13 +41,13 @@ fn contribution(book: &[u32], reference: Point, n: usize) -> u64 {
     testing::cells(book, reference, point_at(book, n), 1, 1)
 }
 
-// The least contributor; among equals the highest number. 0 where there is none.
-fn least(book: &[u32], reference: Point) -> usize {
+// The least contributor; among equals the lowest number by rule 0, the highest by rule 1. 0 where there is none.
+fn least(book: &[u32], reference: Point, rule: u64) -> usize {
     let mut found: usize = 0;
     let mut bound: u64 = 1000;
     for n in 1..9usize {
         let c = contribution(book, reference, n);
-        if held(book, n) && c <= bound {
+        if held(book, n) && (c < bound || c == bound && rule == 1) {
             found = n;
             bound = c;
         }
@@ -167,22 +167,26 @@ fn gain_agrees(book: &[u32], reference: Point, w: &[u64], p: Point) -> bool {
 }
 
 // Whether the least contributor that is dropped has this number and contribution; number 0 where there is none.
-fn drops(w: &mut [u64], number: u64, due: u64) -> bool {
+fn drops(w: &mut [u64], rule: u64, number: u64, due: u64) -> bool {
     let mut log = [0u64; 2];
     let count = at(w, 0);
     if count == 0 {
         return number == 0;
     }
-    let a = reduction::reduce(w, count - 1, &mut log);
-    says(a, 0, 1) && testing::same(&log, &[number, due])
+    let least = ask::least(w, rule);
+    let a = reduction::reduce(w, count - 1, rule, &mut log);
+    says(a, 0, 1)
+        && testing::same(&log, &[number, due])
+        && least.number == number
+        && least.contribution == due
 }
 
 // Drops the least contributor from both.
-fn drop_least(book: &mut [u32], reference: Point, w: &mut [u64]) -> bool {
-    let n = least(book, reference);
+fn drop_least(book: &mut [u32], reference: Point, w: &mut [u64], rule: u64) -> bool {
+    let n = least(book, reference, rule);
     let due = contribution(book, reference, n);
     forget(book, n);
-    drops(w, n as u64, due)
+    drops(w, rule, n as u64, due)
 }
 
 fn inserts(w: &mut [u64], number: u64, p: Point) -> bool {
@@ -195,7 +199,7 @@ fn step(book: &mut [u32], reference: Point, w: &mut [u64], set: u64, i: u64) -> 
     let chosen = noise(set, 3, i);
     let n = (1 + chosen % 8) as usize;
     if chosen / 8 % 8 == 0 {
-        return drop_least(book, reference, w);
+        return drop_least(book, reference, w, chosen / 64 % 2);
     }
     if held(book, n) {
         forget(book, n);

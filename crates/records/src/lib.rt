@@ -20,6 +20,7 @@ pub use places::goes_first;
 pub use places::least_place;
 pub use places::put_record;
 pub use places::rank;
+pub use places::rule_allowed;
 pub use places::strike;
 pub use strides::load;
 pub use strides::load_points;

@@ -21,14 +21,14 @@ use Rattle.records.specs.Amounts.{Each}
 unfoldable pub closed : {A : Type 0} → ℕ → List A → List A
 closed k l = take k l ++ drop (suc k) l
 
--- The least contributor of the records of which these are the numbers and the contributions stands at place k.
-abbrev pub LeastAt : List ℕ → List ℕ → ℕ → Type 0
-LeastAt numbers kept k =
-    (rows : List Row) → column 0 rows ≡ numbers → column 4 rows ≡ kept → getD rows k (read-row []) ≡ least-row rows
+-- The least contributor, by a tie rule, of the records of which these are the numbers and the contributions stands at place k.
+abbrev pub LeastAt : (rule : ℕ) → List ℕ → List ℕ → ℕ → Type 0
+LeastAt rule numbers kept k =
+    (rows : List Row) → column 0 rows ≡ numbers → column 4 rows ≡ kept → getD rows k (read-row []) ≡ least-row rule rows
 
 -- It is noted at this place of the log.
-pub record LeastNoted (numbers kept : List ℕ) (k : ℕ) (log : List ℕ) (at : ℕ) (after : List ℕ) : Type 0 where
-  pub least : LeastAt numbers kept k
+pub record LeastNoted (rule : ℕ) (numbers kept : List ℕ) (k : ℕ) (log : List ℕ) (at : ℕ) (after : List ℕ) : Type 0 where
+  pub least : LeastAt rule numbers kept k
   pub noted : after ≡ put log at (getD numbers k 0 ∷ getD kept k 0 ∷ [])
 
 -- These records stand in the first n places of the columns.

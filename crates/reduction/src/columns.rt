@@ -13,10 +13,11 @@ ghost use Rattle.words.specs.Archive.{Row};
 ghost use Rattle.words.specs.Layout.{records};
 ghost use Rattle.reduction.specs.Columns.{closed, LeastAt, RowsInColumns};
 
-// The place of the least contributor. Most records contribute more than the least so far, and are passed by one test.
-pub fn least_in(numbers: &[u64], kept: &[u64]) -> usize
+// The place of the least contributor by a tie rule. Most records contribute more than the least so far, and are passed by one
+// test.
+fn least_in(numbers: &[u64], kept: &[u64], rule: u64) -> usize
     requires { ⌜ (length (now kept) ≡ length (now numbers)) × (0 < length (now numbers)) ⌝ }
-    ensures { λ r. ⌜ (r < length (now (numbers .entry))) × LeastAt (now (numbers .entry)) (now (kept .entry)) r ⌝ }
+    ensures { λ r. ⌜ (r < length (now (numbers .entry))) × LeastAt rule (now (numbers .entry)) (now (kept .entry)) r ⌝ }
 {
     let mut place = 0;
     let mut number = numbers[0];
@@ -26,7 +27,7 @@ pub fn least_in(numbers: &[u64], kept: &[u64]) -> usize
         let next = kept[i];
         if least < next {
             i += 1;
-        } else if goes_first(numbers[i], next, number, least) {
+        } else if goes_first(rule, numbers[i], next, number, least) {
             place = i;
             number = numbers[i];
             least = next;
@@ -36,6 +37,17 @@ pub fn least_in(numbers: &[u64], kept: &[u64]) -> usize
         }
     }
     place
+}
+
+// The same. The rule is settled here, outside the loop: each of the two is compiled for its own.
+pub fn least(numbers: &[u64], kept: &[u64], rule: u64) -> usize
+    requires { ⌜ (length (now kept) ≡ length (now numbers)) × (0 < length (now numbers)) ⌝ }
+    ensures { λ r. ⌜ (r < length (now (numbers .entry))) × LeastAt rule (now (numbers .entry)) (now (kept .entry)) r ⌝ }
+{
+    if rule == 0 {
+        return least_in(numbers, kept, 0);
+    }
+    least_in(numbers, kept, rule)
 }
 
 // Closes the gap at place k among the first n points.

@@ -2,7 +2,7 @@
 // contributions only those are written that move.
 use crate::columns::close_numbers;
 use crate::columns::close_points;
-use crate::columns::least_in;
+use crate::columns::least;
 use corners::update;
 use hypervolume::Point;
 use hypervolume::point_at;
@@ -18,13 +18,20 @@ ghost use Rattle.calls.specs.Calls.{dropped, note};
 ghost use Rattle.records.specs.Amounts.{moved};
 ghost use Rattle.reduction.specs.Columns.{LeastNoted, GapClosed, Scratch, Recounting, InColumns, Droppable, DropReady};
 
-// Notes number and contribution of the least contributor of the first n places at `at`. Answers its place.
-fn note_least(numbers: &[u64], kept: &[u64], n: usize, log: &mut [u64], at: usize) -> usize
+// Notes number and contribution of the least contributor of the first n places, by a tie rule, at `at`. Answers its place.
+fn note_least(
+    numbers: &[u64],
+    kept: &[u64],
+    n: usize,
+    rule: u64,
+    log: &mut [u64],
+    at: usize,
+) -> usize
     requires { ⌜ (0 < n) × (n ≤ length (now numbers)) × (n ≤ length (now kept)) × (at + 2 ≤ length (now log)) ⌝ }
     ensures place { λ r. ⌜ r < n ⌝ }
-    ensures least { λ r. ⌜ LeastNoted (take n (now (numbers .entry))) (take n (now (kept .entry))) r (now (log .entry)) at (now (log .exit)) ⌝ }
+    ensures least { λ r. ⌜ LeastNoted rule (take n (now (numbers .entry))) (take n (now (kept .entry))) r (now (log .entry)) at (now (log .exit)) ⌝ }
 {
-    let k = least_in(&numbers[..n], &kept[..n]);
+    let k = least(&numbers[..n], &kept[..n], rule);
     let note = [numbers[k], kept[k]];
     copy(&note, log, at);
     k
@@ -63,7 +70,7 @@ fn recount(
     change.gain
 }
 
-// One drop from the first n places of the columns, noted at `at`. Answers the new total.
+// One drop from the first n places of the columns, by a tie rule, noted at `at`. Answers the new total.
 pub fn drop_least(
     numbers: &mut [u64],
     points: &mut [[u32; 3]],
@@ -71,6 +78,7 @@ pub fn drop_least(
     n: usize,
     total: u64,
     reference: Point,
+    rule: u64,
     corners: &mut [[u32; 3]],
     places: &mut [u16],
     line: &mut [u64],
@@ -79,9 +87,9 @@ pub fn drop_least(
     at: usize,
 ) -> u64
     requires { ⌜ DropReady (reference .at) n total (now numbers) (now points) (now kept) × (0 < n) × Scratch n (now corners) (now places) (now line) (now counts) × (at + 2 ≤ length (now log)) ⌝ }
-    ensures { λ r. ⌜ ((a : Archive) → InColumns a (reference .at) n total (now (numbers .entry)) (now (points .entry)) (now (kept .entry)) → Droppable a → InColumns (dropped a) (reference .at) (n - 1) r (now (numbers .exit)) (now (points .exit)) (now (kept .exit)) × (now (log .exit) ≡ put (now (log .entry)) at (note a))) ⌝ }
+    ensures { λ r. ⌜ ((a : Archive) → InColumns a (reference .at) n total (now (numbers .entry)) (now (points .entry)) (now (kept .entry)) → Droppable a → InColumns (dropped rule a) (reference .at) (n - 1) r (now (numbers .exit)) (now (points .exit)) (now (kept .exit)) × (now (log .exit) ≡ put (now (log .entry)) at (note rule a))) ⌝ }
 {
-    let k = note_least(numbers, kept, n, log, at);
+    let k = note_least(numbers, kept, n, rule, log, at);
     let u = point_at(points, k);
     close_gap(numbers, points, kept, n, k);
     let m = n - 1;

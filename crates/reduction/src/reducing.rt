@@ -1,4 +1,4 @@
-// Reduce: rows 11, 12 and 13, then drops of the least contributor of each moment. One audit; the columns are loaded once,
+// Reduce: rows 18, 11, 12 and 13, then drops of the least contributor of each moment. One audit; the columns are loaded once,
 // each drop is one update of them, the words are written once, and the front is counted once, of those that are left.
 use crate::columns::put_records;
 use crate::dropping::drop_least;
@@ -8,6 +8,7 @@ use front::front;
 use hypervolume::Point;
 use records::load;
 use records::load_points;
+use records::rule_allowed;
 use slices::clear;
 use words::reference_of;
 use words::refusal;
@@ -24,11 +25,14 @@ ghost use Rattle.calls.specs.Counted.{IsCounted};
 ghost use Rattle.calls.specs.Lent.{reduce, MeetsOutcome};
 ghost use Rattle.reduction.specs.Columns.{InColumns, Droppable, DropReady, Storing, Stores};
 
-// Rows 11 to 13.
-fn reduce_rows(w: &[u64], k: u64, log: usize) -> u64
+// Rows 18 and 11 to 13.
+fn reduce_rows(w: &[u64], k: u64, rule: u64, log: usize) -> u64
     requires { ⌜ archive-rows (now w) 0 ≡ 0 ⌝ }
-    ensures { λ r. ⌜ r ≡ reduce-rows (read (now (w .entry))) k log ⌝ }
+    ensures { λ r. ⌜ r ≡ reduce-rows (read (now (w .entry))) k rule log ⌝ }
 {
+    if !rule_allowed(rule) {
+        return 18;
+    }
     if w[0] < k {
         return 11;
     }
@@ -42,8 +46,8 @@ fn reduce_rows(w: &[u64], k: u64, log: usize) -> u64
     0
 }
 
-// So many drops from the first n places of the columns, noted one behind the other. Answers the new total. What the counting
-// writes in is cleared once for all of them.
+// So many drops by a tie rule from the first n places of the columns, noted one behind the other. Answers the new total. What
+// the counting writes in is cleared once for all of them.
 fn drop_all(
     numbers: &mut [u64],
     points: &mut [[u32; 3]],
@@ -51,11 +55,12 @@ fn drop_all(
     n: usize,
     total: u64,
     reference: Point,
+    rule: u64,
     drops: usize,
     log: &mut [u64],
 ) -> u64
     requires { ⌜ DropReady (reference .at) n total (now numbers) (now points) (now kept) × (n ≤ 512) × (drops ≤ n) × (2 * drops ≤ length (now log)) ⌝ }
-    ensures { λ r. ⌜ ((a : Archive) → InColumns a (reference .at) n total (now (numbers .entry)) (now (points .entry)) (now (kept .entry)) → Droppable a → InColumns (after-drops drops a) (reference .at) (n - drops) r (now (numbers .exit)) (now (points .exit)) (now (kept .exit)) × (now (log .exit) ≡ put (now (log .entry)) 0 (notes drops a))) ⌝ }
+    ensures { λ r. ⌜ ((a : Archive) → InColumns a (reference .at) n total (now (numbers .entry)) (now (points .entry)) (now (kept .entry)) → Droppable a → InColumns (after-drops rule drops a) (reference .at) (n - drops) r (now (numbers .exit)) (now (points .exit)) (now (kept .exit)) × (now (log .exit) ≡ put (now (log .entry)) 0 (notes rule drops a))) ⌝ }
 {
     let mut corners = [[0u32, 0, 0]; 512];
     let mut places = [0u16; 512];
@@ -71,6 +76,7 @@ fn drop_all(
             n - i,
             left,
             reference,
+            rule,
             &mut corners,
             &mut places,
             &mut line,
@@ -105,9 +111,9 @@ fn store(
 }
 
 // So many drops: the columns are loaded and written back once.
-fn reduce_by(w: &mut [u64], drops: usize, log: &mut [u64])
+fn reduce_by(w: &mut [u64], rule: u64, drops: usize, log: &mut [u64])
     requires { ⌜ (archive-rows (now w) 0 ≡ 0) × IsCounted (read (now w)) × (drops ≤ word (now w) 0) × (2 * drops ≤ length (now log)) ⌝ }
-    ensures { λ _. ⌜ (now (w .exit) ≡ layout (after-drops drops (read (now (w .entry)))) ++ behind (now (w .entry))) × (now (log .exit) ≡ put (now (log .entry)) 0 (notes drops (read (now (w .entry))))) ⌝ }
+    ensures { λ _. ⌜ (now (w .exit) ≡ layout (after-drops rule drops (read (now (w .entry)))) ++ behind (now (w .entry))) × (now (log .exit) ≡ put (now (log .entry)) 0 (notes rule drops (read (now (w .entry))))) ⌝ }
 {
     let n = w[0] as usize;
     let total = w[5];
@@ -125,6 +131,7 @@ fn reduce_by(w: &mut [u64], drops: usize, log: &mut [u64])
         n,
         total,
         reference,
+        rule,
         drops,
         log,
     );
@@ -133,19 +140,19 @@ fn reduce_by(w: &mut [u64], drops: usize, log: &mut [u64])
     store(w, n, m, left, size, &numbers, &points, &kept);
 }
 
-// Reduce (k, log). Answers the count of drops.
-pub fn reduce(w: &mut [u64], k: u64, log: &mut [u64]) -> Answer
-    ensures { λ r. ⌜ MeetsOutcome (reduce (now (w .entry)) k (now (log .entry))) r (now (w .exit)) (now (log .exit)) ⌝ }
+// Reduce (k, tie rule, log). Answers the count of drops.
+pub fn reduce(w: &mut [u64], k: u64, rule: u64, log: &mut [u64]) -> Answer
+    ensures { λ r. ⌜ MeetsOutcome (reduce (now (w .entry)) k rule (now (log .entry))) r (now (w .exit)) (now (log .exit)) ⌝ }
 {
     let refused = refusal(w);
     if refused != 0 {
         return Answer::refused(refused);
     }
-    let turned = reduce_rows(w, k, log.len());
+    let turned = reduce_rows(w, k, rule, log.len());
     if turned != 0 {
         return Answer::refused(turned);
     }
     let drops = w[0] - k;
-    reduce_by(w, drops as usize, log);
+    reduce_by(w, rule, drops as usize, log);
     Answer::done(drops)
 }

@@ -2,7 +2,7 @@
 -- the rows of today come to the same, and a card's insertions stay inside where its coordinates do.
 use Prim.Native.Nat.{ℕ, zero, suc, _+_, _≤_, zero-le}
 use mathlib.Core.Path.{_≡_, refl, ap, _∙_}
-use mathlib.Core.Bool.{true, not}
+use mathlib.Core.Bool.{true}
 use mathlib.Core.Logic.{_⊎_, inl, inr}
 use mathlib.Core.List.{List, _∷_, map, [], List·Memᴰ, List·Memᴰ·head, List·Memᴰ·tail, List·Memᴰ·not-nil, List·Memᴰ·cases-cons, Memᴰ·of-map}
 use mathlib.Core.Option.{Option, none, some}
@@ -199,8 +199,8 @@ unchanged =
           record {
             insert = λ w t h i. refl;
             remove = λ w n h. refl;
-            least = λ w h. refl;
-            reduce = λ w k log h. refl;
+            least = λ w rule h. refl;
+            reduce = λ w k rule log h. refl;
             joint = λ w m n h. refl;
             gain = λ w p h i. refl;
             share = λ w h. refl;
@@ -214,8 +214,8 @@ unchanged =
           record {
             insert = λ w t h i. insert-same w h t i;
             remove = λ w n h. rw (rows-same w h (remove-rows (read w) n));
-            least = λ w h. rw (rows-same w h (least-rows (read w)));
-            reduce = λ w k log h. rw (rows-same w h (reduce-rows (read w) k (length log)));
+            least = λ w rule h. rw (rows-same w h (least-rows (read w) rule));
+            reduce = λ w k rule log h. rw (rows-same w h (reduce-rows (read w) k rule (length log)));
             joint = λ w m n h. rw (rows-same w h (joint-rows (read w) m n));
             gain = λ w p h i. rw (rows-same w h (gain-rows p), gain-row w h p i);
             share = λ w h. rw (rows-same w h 0);

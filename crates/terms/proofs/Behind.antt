@@ -131,21 +131,22 @@ remove-fits : (n : ℕ) → Fits (remove-deed n)
 unfolding removed
 remove-fits n a s e = length-layout (removed a n) (removed-sound a n s (remove-passed a n e) .held-within)
 
-drops-shape : (n : ℕ) (a : Archive) → after-drops n a .shape ≡ a .shape
+drops-shape : (rule n : ℕ) (a : Archive) → after-drops rule n a .shape ≡ a .shape
 unfolding after-drops dropped removed
-drops-shape zero a = refl
-drops-shape (suc n) a = drops-shape n (dropped a)
+drops-shape rule zero a = refl
+drops-shape rule (suc n) a = drops-shape rule n (dropped rule a)
 
-reduce-fits : (k : ℕ) (log : List ℕ) → Fits (reduce-deed k log)
+reduce-fits : (k rule : ℕ) (log : List ℕ) → Fits (reduce-deed k rule log)
 unfolding reduce-rows
-reduce-fits k log a s e =
-    let enough = guard-none _ _ _ e in
+reduce-fits k rule log a s e =
+    let ruled = guard-none _ _ _ e in
+    let enough = guard-none _ _ _ (ruled .1) in
     let room = guard-none _ _ _ (enough .1) in
     let yes = guard-none _ _ _ (room .1) in
     let most : k ≤ length (a .rows) = ltb-false _ _ (enough .0) in
     let n : ℕ = length (a .rows) - k in
-    let all = drops-down n a s (audited-counted a (not-false _ (yes .0))) (omega arith) in
-    length-layout (after-drops n a) (all .sound .held-within) ∙ ap (λ q. extent (q .capacity)) (drops-shape n a)
+    let all = drops-down rule n a s (audited-counted a (not-false _ (yes .0))) (omega arith) in
+    length-layout (after-drops rule n a) (all .sound .held-within) ∙ ap (λ q. extent (q .capacity)) (drops-shape rule n a)
 
 -- Start: its earlier contents don't matter, and both slices are long enough.
 empty-fits : (s : Shape) → length (layout (empty s)) ≡ extent (s .capacity)
@@ -224,10 +225,10 @@ long-alike (ArchiveCall.insert t) v w h =
     outcomes-alike _ v w _ _ refl refl (deed-alike (insert-deed t) (insert-fits t) [] v w h)
 long-alike (ArchiveCall.remove n) v w h =
     outcomes-alike _ v w _ _ refl refl (deed-alike (remove-deed n) (remove-fits n) [] v w h)
-long-alike (ArchiveCall.reduce k log) v w h =
-    outcomes-alike _ v w _ _ refl refl (deed-alike (reduce-deed k log) (reduce-fits k log) log v w h)
-long-alike ArchiveCall.least v w h =
-    let same = question least-rows (λ n a. least-answer n (least-row (a .rows))) (λ n a b. refl) v w h in
+long-alike (ArchiveCall.reduce k rule log) v w h =
+    outcomes-alike _ v w _ _ refl refl (deed-alike (reduce-deed k rule log) (reduce-fits k rule log) log v w h)
+long-alike (ArchiveCall.least rule) v w h =
+    let same = question (λ a. least-rows a rule) (λ n a. least-answer n (least-row rule (a .rows))) (λ n a b. refl) v w h in
     record { answer = ap (λ a. a .refusal ∷ a .number ∷ a .contribution ∷ []) same; words = h .same; other = refl }
 long-alike (ArchiveCall.joint m n) v w h =
     let same = answers-alike (λ a. joint-rows a m n) (λ a. joint-of a m n) v w h in
@@ -275,8 +276,8 @@ unfolding reach capacity-for extent result written only-read Lent.insert Lent.re
 not-written (ArchiveCall.start s) w = start-behind s w
 not-written (ArchiveCall.insert t) w = deed-behind (insert-deed t) (insert-fits t) [] w
 not-written (ArchiveCall.remove n) w = deed-behind (remove-deed n) (remove-fits n) [] w
-not-written (ArchiveCall.reduce k log) w = deed-behind (reduce-deed k log) (reduce-fits k log) log w
-not-written ArchiveCall.least w = refl
+not-written (ArchiveCall.reduce k rule log) w = deed-behind (reduce-deed k rule log) (reduce-fits k rule log) log w
+not-written (ArchiveCall.least rule) w = refl
 not-written (ArchiveCall.joint m n) w = refl
 not-written (ArchiveCall.gain p) w = refl
 not-written ArchiveCall.share w = refl

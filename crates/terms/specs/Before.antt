@@ -87,14 +87,14 @@ unfoldable pub remove-by : Table → List ℕ → ℕ → Outcome
 remove-by by w n =
     leaves w [] (by .archive w (remove-rows (read w) n)) 0 (layout (removed (read w) n) ++ behind w) []
 
-unfoldable pub least-by : Table → List ℕ → LeastAnswer
-least-by by w = least-answer (by .archive w (least-rows (read w))) (least-row (read w .rows))
+unfoldable pub least-by : Table → List ℕ → (rule : ℕ) → LeastAnswer
+least-by by w rule = least-answer (by .archive w (least-rows (read w) rule)) (least-row rule (read w .rows))
 
-unfoldable pub reduce-by : Table → List ℕ → ℕ → List ℕ → Outcome
-reduce-by by w k log =
-    leaves w log (by .archive w (reduce-rows (read w) k (length log))) (length (read w .rows) - k)
-    (layout (after-drops (length (read w .rows) - k) (read w)) ++ behind w)
-    (notes (length (read w .rows) - k) (read w))
+unfoldable pub reduce-by : Table → List ℕ → (k rule : ℕ) → List ℕ → Outcome
+reduce-by by w k rule log =
+    leaves w log (by .archive w (reduce-rows (read w) k rule (length log))) (length (read w .rows) - k)
+    (layout (after-drops rule (length (read w .rows) - k) (read w)) ++ behind w)
+    (notes rule (length (read w .rows) - k) (read w))
 
 -- A question that the archive's own rows and these rows of the call may turn down.
 unfoldable pub asked-by : Table → List ℕ → (rows value : ℕ) → Answer
@@ -130,8 +130,8 @@ EachTrial Point card = (t : Trial) → List·Memᴰ t (card-trials card) → Poi
 pub record CallsAlike (by : Table) (Words : List ℕ → Type 0) (Point : Shape → Trial → Type 0) : Type 0 where
   pub insert : (w : List ℕ) (t : Trial) → Words w → Point (read w .shape) t → Lent.insert w t ≡ insert-by by w t
   pub remove : (w : List ℕ) (n : ℕ) → Words w → Lent.remove w n ≡ remove-by by w n
-  pub least : (w : List ℕ) → Words w → Lent.least w ≡ least-by by w
-  pub reduce : (w : List ℕ) (k : ℕ) (log : List ℕ) → Words w → Lent.reduce w k log ≡ reduce-by by w k log
+  pub least : (w : List ℕ) (rule : ℕ) → Words w → Lent.least w rule ≡ least-by by w rule
+  pub reduce : (w : List ℕ) (k rule : ℕ) (log : List ℕ) → Words w → Lent.reduce w k rule log ≡ reduce-by by w k rule log
   pub joint : (w : List ℕ) (m n : ℕ) → Words w → Lent.joint w m n ≡ asked-by by w (joint-rows (read w) m n) (joint-of (read w) m n)
   pub gain : (w : List ℕ) (p : Trial) → Words w → Point (read w .shape) p
       → Lent.gain-answer w p ≡ asked-by by w (by .gain (read w) p) (insert-gain (read w) p)

@@ -19,8 +19,8 @@ pub data ArchiveCall : Type 0 where
   start : (shape : Shape) → ArchiveCall
   insert : (trial : Trial) → ArchiveCall
   remove : (number : ℕ) → ArchiveCall
-  least : ArchiveCall
-  reduce : (k : ℕ) (log : List ℕ) → ArchiveCall
+  least : (rule : ℕ) → ArchiveCall
+  reduce : (k rule : ℕ) (log : List ℕ) → ArchiveCall
   joint : (m n : ℕ) → ArchiveCall
   gain : (p : Trial) → ArchiveCall
   share : ArchiveCall
@@ -48,13 +48,13 @@ unfoldable pub result : ArchiveCall → List ℕ → Result
 result (start s) w = written (Lent.start w s)
 result (insert t) w = written (Lent.insert w t)
 result (remove n) w = written (Lent.remove w n)
-result least w =
+result (least rule) w =
     record {
-      answer = Lent.least w .refusal ∷ Lent.least w .number ∷ Lent.least w .contribution ∷ [];
+      answer = Lent.least w rule .refusal ∷ Lent.least w rule .number ∷ Lent.least w rule .contribution ∷ [];
       words = w;
       other = [];
     }
-result (reduce k log) w = written (Lent.reduce w k log)
+result (reduce k rule log) w = written (Lent.reduce w k rule log)
 result (joint m n) w = only-read w (Lent.joint w m n)
 result (gain p) w = only-read w (Lent.gain-answer w p)
 result share w = only-read w (Lent.share w)
@@ -77,8 +77,8 @@ unfoldable pub capacity-for : ArchiveCall → List ℕ → ℕ
 capacity-for (start s) w = s .capacity
 capacity-for (insert t) w = word w 1
 capacity-for (remove n) w = word w 1
-capacity-for least w = word w 1
-capacity-for (reduce k log) w = word w 1
+capacity-for (least rule) w = word w 1
+capacity-for (reduce k rule log) w = word w 1
 capacity-for (joint m n) w = word w 1
 capacity-for (gain p) w = word w 1
 capacity-for share w = word w 1

@@ -31,17 +31,17 @@ pub extern "C" fn ta_remove(words: &mut [u64], number: u64) -> u64
 }
 
 #[no_mangle]
-pub extern "C" fn ta_least(words: &[u64]) -> LeastAnswer
-    ensures { λ r. ⌜ r ≡ least (now (words .entry)) ⌝ }
+pub extern "C" fn ta_least(words: &[u64], rule: u64) -> LeastAnswer
+    ensures { λ r. ⌜ r ≡ least (now (words .entry)) rule ⌝ }
 {
-    ask::least(words)
+    ask::least(words, rule)
 }
 
 #[no_mangle]
-pub extern "C" fn ta_reduce(words: &mut [u64], k: u64, log: &mut [u64]) -> Answer
-    ensures { λ r. ⌜ MeetsOutcome (reduce (now (words .entry)) k (now (log .entry))) r (now (words .exit)) (now (log .exit)) ⌝ }
+pub extern "C" fn ta_reduce(words: &mut [u64], k: u64, rule: u64, log: &mut [u64]) -> Answer
+    ensures { λ r. ⌜ MeetsOutcome (reduce (now (words .entry)) k rule (now (log .entry))) r (now (words .exit)) (now (log .exit)) ⌝ }
 {
-    reduction::reduce(words, k, log)
+    reduction::reduce(words, k, rule, log)
 }
 
 #[no_mangle]

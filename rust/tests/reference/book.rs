@@ -55,9 +55,18 @@ impl Book {
     }
 
     /// The numbers struck out, each with its count at that moment, or a refusal.
-    pub fn reduce(&mut self, len: usize, k: u64, log_len: usize) -> Result<Vec<(u64, u64)>, u64> {
+    pub fn reduce(
+        &mut self,
+        len: usize,
+        k: u64,
+        rule: u64,
+        log_len: usize,
+    ) -> Result<Vec<(u64, u64)>, u64> {
         if self.too_short(len) {
             return Err(1);
+        }
+        if rule != 0 && rule != 1 {
+            return Err(18);
         }
         let count = self.trials.len() as u64;
         if k > count {
@@ -71,7 +80,10 @@ impl Book {
             let counts = totals(&self.points(), self.reference).alone;
             let least = *counts.iter().min().expect("a trial is held");
             let among = self.trials.iter().zip(&counts).filter(|(_, &count)| count == least);
-            let number = among.map(|(trial, _)| trial.0).max().expect("the least is among them");
+            let mut numbers: Vec<u64> = among.map(|(trial, _)| trial.0).collect();
+            numbers.sort_unstable();
+            // "The lowest trial number now goes"; "0 the default, 1 the highest".
+            let number = numbers[if rule == 1 { numbers.len() - 1 } else { 0 }];
             self.trials.retain(|t| t.0 != number);
             notes.push((number, least));
         }

@@ -151,11 +151,12 @@ impl Archive {
         Ok(())
     }
 
-    /// The least kept contribution; among equals the highest trial number.
-    fn least(&self) -> Option<(u64, u64)> {
+    /// The least kept contribution; among equals the lowest trial number by rule 0, the highest by 1.
+    fn least(&self, rule: u64) -> Option<(u64, u64)> {
         let least = self.records.iter().map(|r| r.contribution).min()?;
         let among = self.records.iter().filter(|r| r.contribution == least);
-        Some((among.map(|r| r.number).max()?, least))
+        let numbers = among.map(|r| r.number);
+        Some((if rule == 0 { numbers.min()? } else { numbers.max()? }, least))
     }
 
     fn audit(&self) -> bool {
@@ -188,18 +189,21 @@ pub fn remove(words: &mut [u64], number: u64) -> Result<(), u64> {
 }
 
 /// Number and kept contribution.
-pub fn least(words: &[u64]) -> Result<(u64, u64), u64> {
-    read(words)?.least().ok_or(14)
+pub fn least(words: &[u64], rule: u64) -> Result<(u64, u64), u64> {
+    let archive = read(words)?;
+    refuse_if(rule > 1, 18)?;
+    archive.least(rule).ok_or(14)
 }
 
-pub fn reduce(words: &mut [u64], k: u64, log: &mut [u64]) -> Result<u64, u64> {
+pub fn reduce(words: &mut [u64], k: u64, rule: u64, log: &mut [u64]) -> Result<u64, u64> {
     let mut archive = read(words)?;
+    refuse_if(rule > 1, 18)?;
     refuse_if(k > archive.count(), 11)?;
     let drops = archive.count() - k;
     refuse_if((log.len() as u64) < 2 * drops, 12)?;
     refuse_if(!archive.audit(), 13)?;
     for pair in log.chunks_mut(2).take(drops as usize) {
-        let (number, contribution) = archive.least().expect("more than k trials are held");
+        let (number, contribution) = archive.least(rule).expect("more than k trials are held");
         pair.copy_from_slice(&[number, contribution]);
         archive.remove(number).expect("the audit has said yes");
     }

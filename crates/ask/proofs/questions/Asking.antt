@@ -13,7 +13,7 @@ use Rattle.words.specs.Archive.{Trial, Row, Archive}
 use Rattle.words.specs.Layout.{read, word}
 use Rattle.words.specs.Format.{guard, archive-rows, coordinates-allowed, held}
 use Rattle.words.specs.Places.{rows-before}
-use Rattle.calls.specs.Calls.{held-trials, box-of, least-row, least-rows, joint-rows, gain-rows, share-of}
+use Rattle.calls.specs.Calls.{held-trials, box-of, rule-allowed, least-row, least-rows, joint-rows, gain-rows, share-of}
 use Rattle.calls.specs.Lent.{answer, least, share}
 use Rattle.calls.proofs.Answers.{guard-yes, guard-no, rows-refused, rows-passed, answer-refused, answer-done, least-refused, least-done}
 use Rattle.calls.proofs.Known.{known, Known, count-rows, box-filled}
@@ -23,9 +23,9 @@ pub answer-turned : (w : List ℕ) (r rest v : ℕ) → r ≡ archive-rows w 0 �
     → record { refusal = r; value = 0 } ≡ answer (archive-rows w rest) v
 answer-turned w r rest v e n = answer-refused _ r v (rows-refused w r rest e n) n
 
-pub least-turned : (w : List ℕ) (r : ℕ) → r ≡ archive-rows w 0 → (r ≡ 0 → ⊥) → record { refusal = r; number = 0; contribution = 0 } ≡ least w
+pub least-turned : (w : List ℕ) (rule r : ℕ) → r ≡ archive-rows w 0 → (r ≡ 0 → ⊥) → record { refusal = r; number = 0; contribution = 0 } ≡ least w rule
 unfolding least
-least-turned w r e n = least-refused _ r _ (rows-refused w r _ e n) n
+least-turned w rule r e n = least-refused _ r _ (rows-refused w r _ e n) n
 
 -- A row of the call's own turns it down; or none does.
 pub answer-row : (w : List ℕ) (r rest v : ℕ) → archive-rows w 0 ≡ 0 → rest ≡ suc r
@@ -37,20 +37,27 @@ pub answer-value : (w : List ℕ) (rest u v : ℕ) → archive-rows w 0 ≡ 0 �
 answer-value w rest u v p e f = answer-done _ v u (rows-passed w rest p ∙ e) f
 
 -- Least.
-pub least-none-held : (w : List ℕ) → archive-rows w 0 ≡ 0 → word w 0 ≡ 0 → record { refusal = 14; number = 0; contribution = 0 } ≡ least w
-unfolding least least-rows
-least-none-held w p e =
-    let row : archive-rows w (least-rows (read w)) ≡ 14 =
-    rows-passed w _ p ∙ guard-yes (eqb (length (read w .rows)) 0) 14 0 (eq-eqb _ _ (count-rows w ∙ e)) in
-    least-refused _ 14 _ row (λ z. omega arith)
+module _ (w : List ℕ) (rule : ℕ) (p : archive-rows w 0 ≡ 0) where
+  pub least-unruled : rule-allowed rule ≡ false → record { refusal = 18; number = 0; contribution = 0 } ≡ least w rule
+  unfolding least least-rows
+  least-unruled r =
+      let row : archive-rows w (least-rows (read w) rule) ≡ 18 = rows-passed w _ p ∙ guard-yes (not (rule-allowed rule)) 18 _ (ap not r) in
+      least-refused _ 18 _ row (λ z. omega arith)
 
-pub least-found : (w : List ℕ) (found : Row) → archive-rows w 0 ≡ 0 → (word w 0 ≡ 0 → ⊥) → found ≡ least-row (rows-before w (word w 0))
-    → record { refusal = 0; number = found .trial .number; contribution = found .kept } ≡ least w
-unfolding least least-rows read
-least-found w found p n e =
-    let row : archive-rows w (least-rows (read w)) ≡ 0 =
-    rows-passed w _ p ∙ guard-no (eqb (length (read w .rows)) 0) 14 0 (ne-eqb _ _ (λ z. n (sym (count-rows w) ∙ z))) in
-    least-done _ (least-row (read w .rows)) found row e
+  pub least-none-held : rule-allowed rule ≡ true → word w 0 ≡ 0 → record { refusal = 14; number = 0; contribution = 0 } ≡ least w rule
+  unfolding least least-rows
+  least-none-held r e =
+      let row : archive-rows w (least-rows (read w) rule) ≡ 14 =
+      rows-passed w _ p ∙ guard-no (not (rule-allowed rule)) 18 _ (ap not r) ∙ guard-yes (eqb (length (read w .rows)) 0) 14 0 (eq-eqb _ _ (count-rows w ∙ e)) in
+      least-refused _ 14 _ row (λ z. omega arith)
+
+  pub least-found : (found : Row) → rule-allowed rule ≡ true → (word w 0 ≡ 0 → ⊥) → found ≡ least-row rule (rows-before w (word w 0))
+      → record { refusal = 0; number = found .trial .number; contribution = found .kept } ≡ least w rule
+  unfolding least least-rows read
+  least-found found r n e =
+      let row : archive-rows w (least-rows (read w) rule) ≡ 0 =
+      rows-passed w _ p ∙ guard-no (not (rule-allowed rule)) 18 _ (ap not r) ∙ guard-no (eqb (length (read w .rows)) 0) 14 0 (ne-eqb _ _ (λ z. n (sym (count-rows w) ∙ z))) in
+      least-done _ (least-row rule (read w .rows)) found row e
 
 -- Share. The box has a cell, and the kept total is at most the box.
 pub share-asks : (w : List ℕ) (cells : ℕ) → archive-rows w 0 ≡ 0 → cells ≡ box-of (read w)

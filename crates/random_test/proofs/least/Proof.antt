@@ -5,10 +5,10 @@ use Rattle.random_test.proofs.least.Statement.{statement}
 use Rattle.random_test.proofs.least.Tie as tie
 
 abbrev Inv-loop : tie.InvT-loop
-Inv-loop book reference found₀ bound₀ n₀ found bound n = n ≤ 9
+Inv-loop book reference rule found₀ bound₀ n₀ found bound n = n ≤ 9
 
 abbrev μ-loop : tie.MeasureT-loop
-μ-loop book reference found₀ bound₀ n₀ found bound n = 9 - n
+μ-loop book reference rule found₀ bound₀ n₀ found bound n = 9 - n
 
 loop-holds : tie.Need-loop-holds Inv-loop μ-loop
 loop-holds c = search needs

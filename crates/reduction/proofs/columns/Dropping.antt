@@ -50,10 +50,10 @@ droppable-archive a s c =
       counted = c;
     }
 
-pub droppable-after : (a : Archive) → Droppable a → 0 < length (a .rows) → Droppable (dropped a)
-droppable-after a d l =
-    let keeps : DropKeeps a = drop-keeps a (sound-archive a d) (d .counted) l in
-    droppable-archive (dropped a) (keeps .sound) (keeps .counted)
+pub droppable-after : (rule : ℕ) (a : Archive) → Droppable a → 0 < length (a .rows) → Droppable (dropped rule a)
+droppable-after rule a d l =
+    let keeps : DropKeeps rule a = drop-keeps rule a (sound-archive a d) (d .counted) l in
+    droppable-archive (dropped rule a) (keeps .sound) (keeps .counted)
 
 -- Records that are raised keep their trials.
 raised-numbers : (a : Archive) (t : Trial) (rows : List Row) → column 0 (map (raised a t) rows) ≡ column 0 rows
@@ -75,51 +75,51 @@ unfolding points trials leave-out closed
 points-closed k rows = ap (map point) (closed-map (λ r. r .trial) k rows) ∙ closed-map point k (trials rows)
 
 -- The drop of the record at place k, which is the least contributor.
-module _ (a : Archive) (k : ℕ) (d : Droppable a) (l : k < length (a .rows)) (least : getD (a .rows) k blank ≡ least-row (a .rows)) where
+module _ (rule : ℕ) (a : Archive) (k : ℕ) (d : Droppable a) (l : k < length (a .rows)) (least : getD (a .rows) k blank ≡ least-row rule (a .rows)) where
   abbrev gone : Trial
   gone = getD (a .rows) k blank .trial
 
   apart : distinct (trials (a .rows)) ≡ true
   apart = sound-archive a d .apart
 
-  others-left : others (leaving a) (a .rows) ≡ leave-out k (a .rows)
+  others-left : others (leaving rule a) (a .rows) ≡ leave-out k (a .rows)
   others-left = ap (λ r. others (r .trial .number) (a .rows)) (sym least) ∙ others-at (a .rows) k blank l apart
 
-  row-gone : row-of (leaving a) (a .rows) ≡ getD (a .rows) k blank
+  row-gone : row-of (leaving rule a) (a .rows) ≡ getD (a .rows) k blank
   row-gone = ap (λ r. row-of (r .trial .number) (a .rows)) (sym least) ∙ row-of-at (a .rows) k blank l apart
 
-  rows-after : dropped a .rows ≡ map (raised (without a (leaving a)) gone) (leave-out k (a .rows))
+  rows-after : dropped rule a .rows ≡ map (raised (without a (leaving rule a)) gone) (leave-out k (a .rows))
   unfolding dropped removed
-  rows-after = ap₂ (λ r rows. map (raised (without a (leaving a)) (r .trial)) rows) row-gone others-left
+  rows-after = ap₂ (λ r rows. map (raised (without a (leaving rule a)) (r .trial)) rows) row-gone others-left
 
-  without-points : held-points (without a (leaving a)) ≡ closed k (held-points a)
+  without-points : held-points (without a (leaving rule a)) ≡ closed k (held-points a)
   unfolding without
   without-points = ap (λ rows. points (trials rows)) others-left ∙ points-closed k (a .rows)
 
-  pub numbers-after : column 0 (dropped a .rows) ≡ closed k (column 0 (a .rows))
-  numbers-after = ap (column 0) rows-after ∙ raised-numbers (without a (leaving a)) gone (leave-out k (a .rows)) ∙ column-closed 0 k (a .rows)
+  pub numbers-after : column 0 (dropped rule a .rows) ≡ closed k (column 0 (a .rows))
+  numbers-after = ap (column 0) rows-after ∙ raised-numbers (without a (leaving rule a)) gone (leave-out k (a .rows)) ∙ column-closed 0 k (a .rows)
 
-  pub points-after : held-points (dropped a) ≡ closed k (held-points a)
+  pub points-after : held-points (dropped rule a) ≡ closed k (held-points a)
   unfolding dropped
-  points-after = ap points (removed-trials a (leaving a)) ∙ without-points
+  points-after = ap points (removed-trials a (leaving rule a)) ∙ without-points
 
-  shares-left : shares (without a (leaving a)) gone (leave-out k (a .rows)) ≡ joints (reference-of a) (closed k (held-points a)) (point gone)
+  shares-left : shares (without a (leaving rule a)) gone (leave-out k (a .rows)) ≡ joints (reference-of a) (closed k (held-points a)) (point gone)
   unfolding without
   shares-left =
-      ap (shares (without a (leaving a)) gone) (sym others-left)
-      ∙ sym (joints-shares (without a (leaving a)) gone)
+      ap (shares (without a (leaving rule a)) gone) (sym others-left)
+      ∙ sym (joints-shares (without a (leaving rule a)) gone)
       ∙ ap (λ ps. joints (reference-of a) ps (point gone)) without-points
 
-  pub kept-after : column 4 (dropped a .rows) ≡ moved (λ v m. v + m) (closed k (column 4 (a .rows))) (joints (reference-of a) (closed k (held-points a)) (point gone))
+  pub kept-after : column 4 (dropped rule a .rows) ≡ moved (λ v m. v + m) (closed k (column 4 (a .rows))) (joints (reference-of a) (closed k (held-points a)) (point gone))
   kept-after =
       ap (column 4) rows-after
-      ∙ raised-kept (without a (leaving a)) gone (leave-out k (a .rows))
+      ∙ raised-kept (without a (leaving rule a)) gone (leave-out k (a .rows))
       ∙ ap₂ (moved (λ v m. v + m)) (column-closed 4 k (a .rows)) shares-left
 
-  pub loss-is : removal-loss a (leaving a) ≡ gain (reference-of a) (closed k (held-points a)) (point gone)
+  pub loss-is : removal-loss a (leaving rule a) ≡ gain (reference-of a) (closed k (held-points a)) (point gone)
   unfolding removal-loss insert-gain without
   loss-is = ap₂ (λ r ps. gain (reference-of a) ps (point (r .trial))) row-gone without-points
 
-  pub sum-after : dropped a .sum ≡ a .sum - gain (reference-of a) (closed k (held-points a)) (point gone)
+  pub sum-after : dropped rule a .sum ≡ a .sum - gain (reference-of a) (closed k (held-points a)) (point gone)
   unfolding dropped removed
   sum-after = ap (λ g. a .sum - g) loss-is

@@ -30,45 +30,45 @@ unfolding field-of record-words read-row
 kept-in rows i = column-at 4 rows i refl
 
 -- Whether the record at one place goes before that at another, from their columns.
-abbrev goes-in : List ℕ → List ℕ → ℕ → ℕ → Bool
-goes-in numbers kept i j = precedes (getD numbers i 0) (getD kept i 0) (getD numbers j 0) (getD kept j 0)
+abbrev goes-in : (rule : ℕ) → List ℕ → List ℕ → ℕ → ℕ → Bool
+goes-in rule numbers kept i j = precedes rule (getD numbers i 0) (getD kept i 0) (getD numbers j 0) (getD kept j 0)
 
-goes-in-rows : (rows : List Row) (i j : ℕ) → goes-in (column 0 rows) (column 4 rows) i j ≡ goes-first (getD rows i blank) (getD rows j blank)
+goes-in-rows : (rule : ℕ) (rows : List Row) (i j : ℕ) → goes-in rule (column 0 rows) (column 4 rows) i j ≡ goes-first rule (getD rows i blank) (getD rows j blank)
 unfolding goes-first
-goes-in-rows rows i j = rw (number-in rows i, number-in rows j, kept-in rows i, kept-in rows j)
+goes-in-rows rule rows i j = rw (number-in rows i, number-in rows j, kept-in rows i, kept-in rows j)
 
-pub record RankedSoFar (numbers kept : List ℕ) (best number least i : ℕ) : Type 0 where
+pub record RankedSoFar (rule : ℕ) (numbers kept : List ℕ) (best number least i : ℕ) : Type 0 where
   pub part : i ≤ length numbers
   pub inside : best < i
   pub numbered : number ≡ getD numbers best 0
   pub is : least ≡ getD kept best 0
-  pub leads : (rows : List Row) → column 0 rows ≡ numbers → column 4 rows ≡ kept → Leading rows blank best i
+  pub leads : (rows : List Row) → column 0 rows ≡ numbers → column 4 rows ≡ kept → Leading rule rows blank best i
 
 rows-long : (rows : List Row) (numbers : List ℕ) → column 0 rows ≡ numbers → length rows ≡ length numbers
 rows-long rows numbers e = sym (length-column 0 rows) ∙ ap length e
 
-pub ranked-none : (numbers kept : List ℕ) → 0 < length numbers → RankedSoFar numbers kept 0 (getD numbers 0 0) (getD kept 0 0) 1
-ranked-none numbers kept l =
+pub ranked-none : (rule : ℕ) (numbers kept : List ℕ) → 0 < length numbers → RankedSoFar rule numbers kept 0 (getD numbers 0 0) (getD kept 0 0) 1
+ranked-none rule numbers kept l =
     record {
       part = omega arith;
       inside = omega arith;
       numbered = refl;
       is = refl;
-      leads = λ rows e f. let long : length rows ≡ length numbers = rows-long rows numbers e in leading-none rows blank (omega arith);
+      leads = λ rows e f. let long : length rows ≡ length numbers = rows-long rows numbers e in leading-none rule rows blank (omega arith);
     }
 
-module _ {numbers kept : List ℕ} {best number least i : ℕ} (h : RankedSoFar numbers kept best number least i) (l : i < length numbers) where
-  next-leads : (t : Bool) → goes-in numbers kept i best ≡ t → (rows : List Row) → column 0 rows ≡ numbers → column 4 rows ≡ kept → Leading rows blank (pick t i best) (i + 1)
+module _ {rule : ℕ} {numbers kept : List ℕ} {best number least i : ℕ} (h : RankedSoFar rule numbers kept best number least i) (l : i < length numbers) where
+  next-leads : (t : Bool) → goes-in rule numbers kept i best ≡ t → (rows : List Row) → column 0 rows ≡ numbers → column 4 rows ≡ kept → Leading rule rows blank (pick t i best) (i + 1)
   next-leads t et rows e f =
       let long : length rows ≡ length numbers = rows-long rows numbers e in
-      let test : goes-first (getD rows i blank) (getD rows best blank) ≡ t = sym (goes-in-rows rows i best) ∙ ap₂ (λ x y. goes-in x y i best) e f ∙ et in
+      let test : goes-first rule (getD rows i blank) (getD rows best blank) ≡ t = sym (goes-in-rows rule rows i best) ∙ ap₂ (λ x y. goes-in rule x y i best) e f ∙ et in
       rw test at (leading-more (h .leads rows e f) (let m : i < length rows = omega arith in m))
 
-  own-test : precedes (getD numbers i 0) (getD kept i 0) number least ≡ goes-in numbers kept i best
+  own-test : precedes rule (getD numbers i 0) (getD kept i 0) number least ≡ goes-in rule numbers kept i best
   own-test = rw (h .numbered, h .is)
 
   -- A record that does not go first changes nothing; one that contributes more does not.
-  pub ranked-stay : precedes (getD numbers i 0) (getD kept i 0) number least ≡ false → RankedSoFar numbers kept best number least (i + 1)
+  pub ranked-stay : precedes rule (getD numbers i 0) (getD kept i 0) number least ≡ false → RankedSoFar rule numbers kept best number least (i + 1)
   unfolding pick
   ranked-stay no-first =
       record {
@@ -79,10 +79,10 @@ module _ {numbers kept : List ℕ} {best number least i : ℕ} (h : RankedSoFar 
         leads = next-leads false (sym own-test ∙ no-first);
       }
 
-  pub ranked-skip : least < getD kept i 0 → RankedSoFar numbers kept best number least (i + 1)
-  ranked-skip more = ranked-stay (sym (first-more (ranked-row (getD numbers i 0) (getD kept i 0)) (ranked-row number least) (omega arith) (λ e. omega arith)))
+  pub ranked-skip : least < getD kept i 0 → RankedSoFar rule numbers kept best number least (i + 1)
+  ranked-skip more = ranked-stay (sym (first-more rule (ranked-row (getD numbers i 0) (getD kept i 0)) (ranked-row number least) (omega arith) (λ e. omega arith)))
 
-  pub ranked-first : precedes (getD numbers i 0) (getD kept i 0) number least ≡ true → RankedSoFar numbers kept i (getD numbers i 0) (getD kept i 0) (i + 1)
+  pub ranked-first : precedes rule (getD numbers i 0) (getD kept i 0) number least ≡ true → RankedSoFar rule numbers kept i (getD numbers i 0) (getD kept i 0) (i + 1)
   unfolding pick
   ranked-first is-first =
       record {
@@ -93,8 +93,8 @@ module _ {numbers kept : List ℕ} {best number least i : ℕ} (h : RankedSoFar 
         leads = next-leads true (sym own-test ∙ is-first);
       }
 
-pub ranked-end : {numbers kept : List ℕ} {best number least i : ℕ} → RankedSoFar numbers kept best number least i → length numbers ≤ i → (best < length numbers) × LeastAt numbers kept best
-ranked-end {numbers} {kept} {best} {number} {least} {i} h l =
+pub ranked-end : {rule : ℕ} {numbers kept : List ℕ} {best number least i : ℕ} → RankedSoFar rule numbers kept best number least i → length numbers ≤ i → (best < length numbers) × LeastAt rule numbers kept best
+ranked-end {rule} {numbers} {kept} {best} {number} {least} {i} h l =
     let part : i ≤ length numbers = h .part in
     let inside : best < i = h .inside in (
       omega arith,

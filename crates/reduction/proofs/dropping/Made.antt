@@ -50,32 +50,32 @@ each-closed (suc k) [] limit h i = zero-le
 each-closed (suc k) (x ∷ l) limit h zero = h 0
 each-closed (suc k) (x ∷ l) limit h (suc i) = each-closed k l limit (λ j. h (suc j)) i
 
-reference-kept : (a : Archive) → reference-of (dropped a) ≡ reference-of a
+reference-kept : (rule : ℕ) (a : Archive) → reference-of (dropped rule a) ≡ reference-of a
 unfolding dropped removed
-reference-kept a = refl
+reference-kept rule a = refl
 
 -- The drop of the record at place k, on the columns.
 module _
-    {a : Archive} {reference : List ℕ} {n total : ℕ} {numbers : List ℕ} {coordinates : List (List ℕ)} {kept : List ℕ}
+    {rule : ℕ} {a : Archive} {reference : List ℕ} {n total : ℕ} {numbers : List ℕ} {coordinates : List (List ℕ)} {kept : List ℕ}
     (h : InColumns a reference n total numbers coordinates kept) (d : Droppable a)
-    {log after : List ℕ} {at k : ℕ} (l : k < n) (c : LeastNoted (take n numbers) (take n kept) k log at after)
+    {log after : List ℕ} {at k : ℕ} (l : k < n) (c : LeastNoted rule (take n numbers) (take n kept) k log at after)
     {numbers′ : List ℕ} {coordinates′ : List (List ℕ)} {kept′ : List ℕ} (g : GapClosed n k numbers coordinates kept numbers′ coordinates′ kept′)
     {u : List ℕ} (e : u ≡ getD coordinates k [])
   where
     inside : k < length (a .rows)
     inside = let many : length (a .rows) ≡ n = h .held .many in omega arith
 
-    least : getD (a .rows) k blank ≡ least-row (a .rows)
+    least : getD (a .rows) k blank ≡ least-row rule (a .rows)
     least = c .least (a .rows) (sym (h .held .numbered)) (sym (h .held .contributed))
 
     u-is : u ≡ point (getD (a .rows) k blank .trial)
     u-is = e ∙ row-in k (h .held) l .point-is
 
-    keeps : DropKeeps a
-    keeps = drop-keeps a (sound-archive a d) (d .counted) (omega (arith, inside))
+    keeps : DropKeeps rule a
+    keeps = drop-keeps rule a (sound-archive a d) (d .counted) (omega (arith, inside))
 
-    points-left : take (n - 1) coordinates′ ≡ held-points (dropped a)
-    points-left = g .placed ∙ ap (closed k) (h .held .placed) ∙ sym (points-after a k d inside least)
+    points-left : take (n - 1) coordinates′ ≡ held-points (dropped rule a)
+    points-left = g .placed ∙ ap (closed k) (h .held .placed) ∙ sym (points-after rule a k d inside least)
 
     pub recount-ready : Room n numbers coordinates kept → length coordinates′ ≡ length coordinates → length kept′ ≡ length kept → Recounting coordinates′ kept′ (n - 1) u reference
     recount-ready r lp lk =
@@ -83,7 +83,7 @@ module _
         record {
           points-room = let s : n ≤ length coordinates = r .of-points in omega arith;
           kept-room = let s : n ≤ length kept = r .of-kept in omega arith;
-          sorted = subst Sorted (sym points-left) (sound-sorted (dropped a) (keeps .sound));
+          sorted = subst Sorted (sym points-left) (sound-sorted (dropped rule a) (keeps .sound));
           small = subst Small (sym (e ∙ sym (getD-take n coordinates k [] l) ∙ ap (λ x. getD x k []) (h .held .placed))) (sound-sorted a (sound-archive a d) .small k);
           reference-small = subst Small (h .referred) (bounds .reference-high);
           boxed = subst (λ r. box r ≤ 1152921504606846976) (h .referred) (box-bound (a .shape) bounds);
@@ -100,37 +100,37 @@ module _
 
     pub gain-within : (r : ℕ) → r ≡ gain reference (take (n - 1) coordinates′) u → r ≤ total
     gain-within r q =
-        let loss : r ≡ removal-loss a (leaving a) = gain-is r q ∙ sym (loss-is a k d inside least) in
-        let falls = total-removed a (leaving a) (split (leaving a) (a .rows) (keeps .known) (sound-archive a d .apart)) in
+        let loss : r ≡ removal-loss a (leaving rule a) = gain-is r q ∙ sym (loss-is rule a k d inside least) in
+        let falls = total-removed a (leaving rule a) (split (leaving rule a) (a .rows) (keeps .known) (sound-archive a d .apart)) in
         let sum = d .counted .sum in
         let totalled : a .sum ≡ total = h .totalled in
         omega arith
 
-    kept-left : (kept″ : List ℕ) → take (n - 1) kept″ ≡ moved (λ v s. v + s) (take (n - 1) kept′) (joints reference (take (n - 1) coordinates′) u) → take (n - 1) kept″ ≡ column 4 (dropped a .rows)
+    kept-left : (kept″ : List ℕ) → take (n - 1) kept″ ≡ moved (λ v s. v + s) (take (n - 1) kept′) (joints reference (take (n - 1) coordinates′) u) → take (n - 1) kept″ ≡ column 4 (dropped rule a .rows)
     kept-left kept″ q =
         q
         ∙ ap₂ (moved (λ v s. v + s)) (g .contributed ∙ ap (closed k) (h .held .contributed))
         (ap₂ (λ x y. joints x y u) (sym (h .referred)) (g .placed ∙ ap (closed k) (h .held .placed)) ∙ ap (joints (reference-of a) (closed k (held-points a))) u-is)
-        ∙ sym (kept-after a k d inside least)
+        ∙ sym (kept-after rule a k d inside least)
 
-    number-noted : getD (take n numbers) k 0 ≡ least-row (a .rows) .trial .number
+    number-noted : getD (take n numbers) k 0 ≡ least-row rule (a .rows) .trial .number
     number-noted = ap (λ x. getD x k 0) (h .held .numbered) ∙ number-in (a .rows) k ∙ ap (λ r. r .trial .number) least
 
-    kept-noted : getD (take n kept) k 0 ≡ least-row (a .rows) .kept
+    kept-noted : getD (take n kept) k 0 ≡ least-row rule (a .rows) .kept
     kept-noted = ap (λ x. getD x k 0) (h .held .contributed) ∙ kept-in (a .rows) k ∙ ap (λ r. r .kept) least
 
     pub drop-made : (r : ℕ) (kept″ : List ℕ) → r ≡ gain reference (take (n - 1) coordinates′) u
         → take (n - 1) kept″ ≡ moved (λ v s. v + s) (take (n - 1) kept′) (joints reference (take (n - 1) coordinates′) u)
-        → InColumns (dropped a) reference (n - 1) (total - r) numbers′ coordinates′ kept″ × (after ≡ put log at (note a))
+        → InColumns (dropped rule a) reference (n - 1) (total - r) numbers′ coordinates′ kept″ × (after ≡ put log at (note rule a))
     unfolding note
     drop-made r kept″ q m = (
       record {
-        referred = reference-kept a ∙ h .referred;
-        totalled = sum-after a k d inside least ∙ ap₂ (λ x y. x - y) (h .totalled) (sym (gain-is r q));
+        referred = reference-kept rule a ∙ h .referred;
+        totalled = sum-after rule a k d inside least ∙ ap₂ (λ x y. x - y) (h .totalled) (sym (gain-is r q));
         held =
             record {
-              many = let many : length (a .rows) ≡ n = h .held .many in let count : length (a .rows) ≡ suc (length (dropped a .rows)) = keeps .count in omega arith;
-              numbered = g .numbered ∙ ap (closed k) (h .held .numbered) ∙ sym (numbers-after a k d inside least);
+              many = let many : length (a .rows) ≡ n = h .held .many in let count : length (a .rows) ≡ suc (length (dropped rule a .rows)) = keeps .count in omega arith;
+              numbered = g .numbered ∙ ap (closed k) (h .held .numbered) ∙ sym (numbers-after rule a k d inside least);
               placed = points-left;
               contributed = kept-left kept″ m;
             };

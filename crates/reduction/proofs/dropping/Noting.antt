@@ -15,9 +15,9 @@ module _ (numbers kept : List ℕ) (n : ℕ) (p : n ≤ length numbers) where
   pub place-below : (k : ℕ) → k < length (take n numbers) → k < n
   place-below k l = omega (arith, length-take-le n numbers p)
 
-  pub least-noted : (k at : ℕ) (log after : List ℕ) → (k < length (take n numbers)) × LeastAt (take n numbers) (take n kept) k
-      → after ≡ put log at (getD numbers k 0 ∷ getD kept k 0 ∷ []) → (k < n) × LeastNoted (take n numbers) (take n kept) k log at after
-  least-noted k at log after l e =
+  pub least-noted : (rule k at : ℕ) (log after : List ℕ) → (k < length (take n numbers)) × LeastAt rule (take n numbers) (take n kept) k
+      → after ≡ put log at (getD numbers k 0 ∷ getD kept k 0 ∷ []) → (k < n) × LeastNoted rule (take n numbers) (take n kept) k log at after
+  least-noted rule k at log after l e =
       let low : k < n = place-below k (l .0) in (
         low,
         record {

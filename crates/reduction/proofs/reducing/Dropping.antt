@@ -14,22 +14,22 @@ use Rattle.reduction.specs.Columns.{InColumns, Droppable, DropReady, Scr
 use Rattle.reduction.proofs.columns.Dropping.{droppable-after}
 
 -- One drop more, at the end.
-drops-more : (i : ℕ) (a : Archive) → after-drops (suc i) a ≡ dropped (after-drops i a)
+drops-more : (rule i : ℕ) (a : Archive) → after-drops rule (suc i) a ≡ dropped rule (after-drops rule i a)
 unfolding after-drops
-drops-more zero a = refl
-drops-more (suc i) a = drops-more i (dropped a)
+drops-more rule zero a = refl
+drops-more rule (suc i) a = drops-more rule i (dropped rule a)
 
-notes-more : (i : ℕ) (a : Archive) → notes (suc i) a ≡ notes i a ++ note (after-drops i a)
+notes-more : (rule i : ℕ) (a : Archive) → notes rule (suc i) a ≡ notes rule i a ++ note rule (after-drops rule i a)
 unfolding notes after-drops
-notes-more zero a = append-nil (note a)
-notes-more (suc i) a =
-    ap (λ l. note a ++ l) (notes-more i (dropped a)) ∙ sym (append-assoc (note a) (notes i (dropped a)) (note (after-drops i (dropped a))))
+notes-more rule zero a = append-nil (note rule a)
+notes-more rule (suc i) a =
+    ap (λ l. note rule a ++ l) (notes-more rule i (dropped rule a)) ∙ sym (append-assoc (note rule a) (notes rule i (dropped rule a)) (note rule (after-drops rule i (dropped rule a))))
 
-length-notes : (i : ℕ) (a : Archive) → length (notes i a) ≡ 2 * i
+length-notes : (rule i : ℕ) (a : Archive) → length (notes rule i a) ≡ 2 * i
 unfolding notes note
-length-notes zero a = refl
-length-notes (suc i) a =
-    let later : length (notes i (dropped a)) ≡ 2 * i = length-notes i (dropped a) in
+length-notes rule zero a = refl
+length-notes rule (suc i) a =
+    let later : length (notes rule i (dropped rule a)) ≡ 2 * i = length-notes rule i (dropped rule a) in
     omega arith
 
 pub some-left : (i drops n : ℕ) → i < drops → drops ≤ n → 0 < n - i
@@ -39,16 +39,16 @@ pub fewer-left : (i drops : ℕ) → i < drops → drops - (i + 1) < drops - i
 fewer-left i drops l = omega arith
 
 -- Drops leave the shape.
-pub drops-shape : (i : ℕ) (a : Archive) → after-drops i a .shape ≡ a .shape
+pub drops-shape : (rule i : ℕ) (a : Archive) → after-drops rule i a .shape ≡ a .shape
 unfolding after-drops dropped removed
-drops-shape zero a = refl
-drops-shape (suc i) a = drops-shape i (dropped a)
+drops-shape rule zero a = refl
+drops-shape rule (suc i) a = drops-shape rule i (dropped rule a)
 
 -- i drops are made from this archive.
-pub record Dropped (a : Archive) (reference : List ℕ) (n i left : ℕ) (numbers : List ℕ) (coordinates : List (List ℕ)) (kept log₀ log : List ℕ) : Type 0 where
-  pub holds : InColumns (after-drops i a) reference (n - i) left numbers coordinates kept
-  pub droppable : Droppable (after-drops i a)
-  pub noted : log ≡ put log₀ 0 (notes i a)
+pub record Dropped (rule : ℕ) (a : Archive) (reference : List ℕ) (n i left : ℕ) (numbers : List ℕ) (coordinates : List (List ℕ)) (kept log₀ log : List ℕ) : Type 0 where
+  pub holds : InColumns (after-drops rule i a) reference (n - i) left numbers coordinates kept
+  pub droppable : Droppable (after-drops rule i a)
+  pub noted : log ≡ put log₀ 0 (notes rule i a)
 
 -- What the counting writes in has 512 places each.
 pub record Fixed (corners : List (List ℕ)) (places line counts : List ℕ) : Type 0 where
@@ -58,10 +58,10 @@ pub record Fixed (corners : List (List ℕ)) (places line counts : List ℕ) : T
   pub counts-long : length counts ≡ 512
 
 -- The columns at the start.
-module _ (reference : List ℕ) (n total : ℕ) (numbers₀ : List ℕ) (coordinates₀ : List (List ℕ)) (kept₀ log₀ : List ℕ) where
+module _ (rule : ℕ) (reference : List ℕ) (n total : ℕ) (numbers₀ : List ℕ) (coordinates₀ : List (List ℕ)) (kept₀ log₀ : List ℕ) where
   pub record DropsMade (drops i left : ℕ) (numbers : List ℕ) (coordinates : List (List ℕ)) (kept log : List ℕ) (corners : List (List ℕ)) (places line counts : List ℕ) : Type 0 where
     pub part : i ≤ drops
-    pub made : (a : Archive) → InColumns a reference n total numbers₀ coordinates₀ kept₀ → Droppable a → Dropped a reference n i left numbers coordinates kept log₀ log
+    pub made : (a : Archive) → InColumns a reference n total numbers₀ coordinates₀ kept₀ → Droppable a → Dropped rule a reference n i left numbers coordinates kept log₀ log
     pub scratch : Fixed corners places line counts
     pub numbers-long : length numbers ≡ length numbers₀
     pub coordinates-long : length coordinates ≡ length coordinates₀
@@ -82,14 +82,14 @@ module _ (reference : List ℕ) (n total : ℕ) (numbers₀ : List ℕ) (coordin
       }
 
 module _
-    {reference : List ℕ} {n total : ℕ} {numbers₀ : List ℕ} {coordinates₀ : List (List ℕ)} {kept₀ log₀ : List ℕ}
+    {rule : ℕ} {reference : List ℕ} {n total : ℕ} {numbers₀ : List ℕ} {coordinates₀ : List (List ℕ)} {kept₀ log₀ : List ℕ}
     {drops i left : ℕ} {numbers : List ℕ} {coordinates : List (List ℕ)} {kept log : List ℕ} {corners : List (List ℕ)} {places line counts : List ℕ}
-    (h : DropsMade reference n total numbers₀ coordinates₀ kept₀ log₀ drops i left numbers coordinates kept log corners places line counts)
+    (h : DropsMade rule reference n total numbers₀ coordinates₀ kept₀ log₀ drops i left numbers coordinates kept log corners places line counts)
   where
     pub drop-ready : DropReady reference n total numbers₀ coordinates₀ kept₀ → DropReady reference (n - i) left numbers coordinates kept
     drop-ready r =
         let one = h .made (r .archive) (r .inside) (r .droppable) in
-        record { archive = after-drops i (r .archive); inside = one .holds; droppable = one .droppable }
+        record { archive = after-drops rule i (r .archive); inside = one .holds; droppable = one .droppable }
 
     pub drop-room : n ≤ 512 → Scratch (n - i) corners places line counts
     drop-room few =
@@ -105,10 +105,10 @@ module _
     log-room l r = let long : length log ≡ length log₀ = h .log-long in omega arith
 
     pub drops-next : (left′ : ℕ) (numbers′ : List ℕ) (coordinates′ : List (List ℕ)) (kept′ log′ : List ℕ) (corners′ : List (List ℕ)) (places′ line′ counts′ : List ℕ) → i < drops → drops ≤ n → 2 * drops ≤ length log₀
-        → ((a : Archive) → InColumns a reference (n - i) left numbers coordinates kept → Droppable a → InColumns (dropped a) reference (n - i - 1) left′ numbers′ coordinates′ kept′ × (log′ ≡ put log (2 * i) (note a)))
+        → ((a : Archive) → InColumns a reference (n - i) left numbers coordinates kept → Droppable a → InColumns (dropped rule a) reference (n - i - 1) left′ numbers′ coordinates′ kept′ × (log′ ≡ put log (2 * i) (note rule a)))
         → length numbers′ ≡ length numbers → length coordinates′ ≡ length coordinates → length kept′ ≡ length kept → length log′ ≡ length log
         → length corners′ ≡ length corners → length places′ ≡ length places → length line′ ≡ length line → length counts′ ≡ length counts
-        → DropsMade reference n total numbers₀ coordinates₀ kept₀ log₀ drops (i + 1) left′ numbers′ coordinates′ kept′ log′ corners′ places′ line′ counts′
+        → DropsMade rule reference n total numbers₀ coordinates₀ kept₀ log₀ drops (i + 1) left′ numbers′ coordinates′ kept′ log′ corners′ places′ line′ counts′
     drops-next left′ numbers′ coordinates′ kept′ log′ corners′ places′ line′ counts′ l few fits drop ln lp lk ll lc ls li lo =
         let s : Fixed corners places line counts = h .scratch in
         record {
@@ -121,31 +121,31 @@ module _
           log-long = ll ∙ h .log-long;
         }
       where
-        next : (a : Archive) → InColumns a reference n total numbers₀ coordinates₀ kept₀ → Droppable a → Dropped a reference n (i + 1) left′ numbers′ coordinates′ kept′ log₀ log′
+        next : (a : Archive) → InColumns a reference n total numbers₀ coordinates₀ kept₀ → Droppable a → Dropped rule a reference n (i + 1) left′ numbers′ coordinates′ kept′ log₀ log′
         next a g d =
             let one = h .made a g d in
-            let b = after-drops i a in
+            let b = after-drops rule i a in
             let after = drop b (one .holds) (one .droppable) in
-            let many : length (after-drops i a .rows) ≡ n - i = one .holds .held .many in
-            let next-is : after-drops (i + 1) a ≡ dropped b = ap (λ k. after-drops k a) (add-one i) ∙ drops-more i a in
-            let size : length (notes i a) ≡ 2 * i = length-notes i a in
+            let many : length (after-drops rule i a .rows) ≡ n - i = one .holds .held .many in
+            let next-is : after-drops rule (i + 1) a ≡ dropped rule b = ap (λ k. after-drops rule k a) (add-one i) ∙ drops-more rule i a in
+            let size : length (notes rule i a) ≡ 2 * i = length-notes rule i a in
             record {
               holds =
                   subst (λ x. InColumns x reference (n - (i + 1)) left′ numbers′ coordinates′ kept′) (sym next-is)
-                  (subst (λ m. InColumns (dropped b) reference m left′ numbers′ coordinates′ kept′) (let e : n - i - 1 ≡ n - (i + 1) = omega arith in e) (after .0));
-              droppable = subst Droppable (sym next-is) (droppable-after b (one .droppable) (let m : 0 < length (after-drops i a .rows) = omega arith in m));
+                  (subst (λ m. InColumns (dropped rule b) reference m left′ numbers′ coordinates′ kept′) (let e : n - i - 1 ≡ n - (i + 1) = omega arith in e) (after .0));
+              droppable = subst Droppable (sym next-is) (droppable-after rule b (one .droppable) (let m : 0 < length (after-drops rule i a .rows) = omega arith in m));
               noted =
                   after .1
-                  ∙ ap₂ (λ x k. put x k (note b)) (one .noted) (let q : 2 * i ≡ 0 + length (notes i a) = omega arith in q)
-                  ∙ put-then log₀ 0 (notes i a) (note b) (omega arith)
-                  ∙ ap (put log₀ 0) (sym (ap (λ k. notes k a) (add-one i) ∙ notes-more i a));
+                  ∙ ap₂ (λ x k. put x k (note rule b)) (one .noted) (let q : 2 * i ≡ 0 + length (notes rule i a) = omega arith in q)
+                  ∙ put-then log₀ 0 (notes rule i a) (note rule b) (omega arith)
+                  ∙ ap (put log₀ 0) (sym (ap (λ k. notes rule k a) (add-one i) ∙ notes-more rule i a));
             }
 
     pub drops-end : drops ≤ i → (a : Archive) → InColumns a reference n total numbers₀ coordinates₀ kept₀ → Droppable a
-        → InColumns (after-drops drops a) reference (n - drops) left numbers coordinates kept × (log ≡ put log₀ 0 (notes drops a))
+        → InColumns (after-drops rule drops a) reference (n - drops) left numbers coordinates kept × (log ≡ put log₀ 0 (notes rule drops a))
     drops-end l a g d =
         let e : i ≡ drops = (let part : i ≤ drops = h .part in omega arith) in
         let one = h .made a g d in (
-          subst (λ k. InColumns (after-drops k a) reference (n - k) left numbers coordinates kept) e (one .holds),
-          one .noted ∙ ap (λ k. put log₀ 0 (notes k a)) e,
+          subst (λ k. InColumns (after-drops rule k a) reference (n - k) left numbers coordinates kept) e (one .holds),
+          one .noted ∙ ap (λ k. put log₀ 0 (notes rule k a)) e,
         )

@@ -66,20 +66,20 @@ module _ (w : List ℕ) (n : ℕ) (p : archive-rows w 0 ≡ 0) (en : n ≡ word 
   droppable-words c = droppable-archive (read w) (known w p .sound) c
 
 -- What writing back asks, and what it leaves.
-module _ (w : List ℕ) (drops n : ℕ) {total : ℕ} {r numbers kept : List ℕ} {coordinates : List (List ℕ)} (h : InColumns (after-drops drops (read w)) r (n - drops) total numbers coordinates kept) where
+module _ (w : List ℕ) (rule drops n : ℕ) {total : ℕ} {r numbers kept : List ℕ} {coordinates : List (List ℕ)} (h : InColumns (after-drops rule drops (read w)) r (n - drops) total numbers coordinates kept) where
   -- The drops keep the archive sound and counted, so the front of the points left is its front: of all the fronts on the way only
   -- this one is seen.
   module _ (p : archive-rows w 0 ≡ 0) (c : IsCounted (read w)) (l : drops ≤ word w 0) where
-    down : DropsDown drops (read w)
-    down = drops-down drops (read w) (known w p .sound) c (omega (arith, count-rows w))
+    down : DropsDown rule drops (read w)
+    down = drops-down rule drops (read w) (known w p .sound) c (omega (arith, count-rows w))
 
     pub left-in-order : InOrder (take (n - drops) coordinates)
-    left-in-order = rw (h .held .placed) (sound-in-order (after-drops drops (read w)) (down .sound))
+    left-in-order = rw (h .held .placed) (sound-in-order (after-drops rule drops (read w)) (down .sound))
 
-    pub stores : (size : ℕ) → size ≡ front (take (n - drops) coordinates) → Stores w (after-drops drops (read w)) (n - drops) total size numbers coordinates kept
+    pub stores : (size : ℕ) → size ≡ front (take (n - drops) coordinates) → Stores w (after-drops rule drops (read w)) (n - drops) total size numbers coordinates kept
     stores size e =
         record {
-          shaped = drops-shape drops (read w);
+          shaped = drops-shape rule drops (read w);
           totalled = h .totalled;
           front-is = down .counted .front ∙ ap front (sym (h .held .placed)) ∙ sym e;
           held = h .held;

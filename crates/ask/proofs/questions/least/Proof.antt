@@ -12,7 +12,7 @@ refused-requires : tie.Need-refused-requires
 refused-requires c κs = search needs
 
 returns : tie.Need-returns
-returns c = c .refused .ensures ∙ least-turned _ _ (c .before .before .refusal .ensures) (c .before .if1 .taken)
+returns c = c .refused .ensures ∙ least-turned _ _ _ (c .before .before .refusal .ensures) (c .before .if1 .taken)
 
 least-in-requires : tie.Need-least-in-requires
 least-in-requires c κs = search needs

@@ -8,10 +8,10 @@ use Rattle.reduction.proofs.columns.least_in.Statement.{statement}
 use Rattle.reduction.proofs.columns.least_in.Tie as tie
 
 abbrev Inv-loop : tie.InvT-loop
-Inv-loop numbers kept place₀ number₀ least₀ i₀ place number least i = RankedSoFar numbers kept place number least i
+Inv-loop numbers kept rule place₀ number₀ least₀ i₀ place number least i = RankedSoFar rule numbers kept place number least i
 
 abbrev μ-loop : tie.MeasureT-loop
-μ-loop numbers kept place₀ number₀ least₀ i₀ place number least i = length numbers - i
+μ-loop numbers kept rule place₀ number₀ least₀ i₀ place number least i = length numbers - i
 
 shared-slice-read-number : tie.Need-shared-slice-read-number Inv-loop μ-loop
 shared-slice-read-number c = search needs
@@ -20,7 +20,7 @@ shared-slice-read-least : tie.Need-shared-slice-read-least Inv-loop μ-loop
 shared-slice-read-least c = search needs
 
 loop-holds : tie.Need-loop-holds Inv-loop μ-loop
-loop-holds c = ranked-none _ _ (c .before .before .before .before .pre .1)
+loop-holds c = ranked-none _ _ _ (c .before .before .before .before .pre .1)
 
 mul-next : tie.Need-mul-next Inv-loop μ-loop
 mul-next c = search needs

@@ -7,15 +7,15 @@ use Rattle.reduction.proofs.reducing.drop_all.Statement.{statement}
 use Rattle.reduction.proofs.reducing.drop_all.Tie as tie
 
 abbrev Inv-loop : tie.InvT-loop
-Inv-loop numbers₀ points₀ kept₀ n total reference drops log₀ corners₀ places₀ line₀ counts₀ left₀ i₀ numbers points kept log corners places line counts left i =
-    DropsMade (reference .at) n total numbers₀ points₀ kept₀ log₀ drops i left numbers points kept log corners places line counts
+Inv-loop numbers₀ points₀ kept₀ n total reference rule drops log₀ corners₀ places₀ line₀ counts₀ left₀ i₀ numbers points kept log corners places line counts left i =
+    DropsMade rule (reference .at) n total numbers₀ points₀ kept₀ log₀ drops i left numbers points kept log corners places line counts
 
 abbrev μ-loop : tie.MeasureT-loop
-μ-loop numbers₀ points₀ kept₀ n total reference drops log₀ corners₀ places₀ line₀ counts₀ left₀ i₀ numbers points kept log corners places line counts left i =
+μ-loop numbers₀ points₀ kept₀ n total reference rule drops log₀ corners₀ places₀ line₀ counts₀ left₀ i₀ numbers points kept log corners places line counts left i =
     drops - i
 
 loop-holds : tie.Need-loop-holds Inv-loop μ-loop
-loop-holds c = drops-none _ _ _ _ _ _ _ _ _ _ _ _ (record { corners-long = refl; places-long = refl; line-long = refl; counts-long = refl })
+loop-holds c = drops-none _ _ _ _ _ _ _ _ _ _ _ _ _ (record { corners-long = refl; places-long = refl; line-long = refl; counts-long = refl })
 
 sub-drop-least : tie.Need-sub-drop-least Inv-loop μ-loop
 sub-drop-least c = omega (arith, c .before .before .before .loop-test .taken, c .before .before .before .before .before .before .before .before .pre .2)
@@ -45,7 +45,7 @@ loop-less : tie.Need-loop-less Inv-loop μ-loop
 loop-less c = fewer-left _ _ (c .before .before .before .before .before .before .before .before .before .before .before .before .before .before .before .before .before .before .before .before .loop-test .taken)
 
 loop-again : tie.Need-loop-again Inv-loop μ-loop
-loop-again c = drops-next (c .before .before .before .before .before .before .before .before .before .before .before .before .before .before .before .before .before .before .before .before .before .loop .inv) _ _ _ _ _ _ _ _ _ (c .before .before .before .before .before .before .before .before .before .before .before .before .before .before .before .before .before .before .before .before .loop-test .taken) (c .before .before .before .before .before .before .before .before .before .before .before .before .before .before .before .before .before .before .before .before .before .before .before .before .before .pre .2) (c .before .before .before .before .before .before .before .before .before .before .before .before .before .before .before .before .before .before .before .before .before .before .before .before .before .pre .3) (c .before .before .before .before .before .before .before .before .before .before .before .drop-least .ensures) (c .before .before .before .before .before .before .before .before .before .before .before .drop-least .kept .0) (c .before .before .before .before .before .before .before .before .before .before .before .drop-least .kept .1 .0) (c .before .before .before .before .before .before .before .before .before .before .before .drop-least .kept .1 .1 .0) (c .before .before .before .before .before .before .before .before .before .before .before .drop-least .kept .1 .1 .1 .1 .1 .1 .1 .1 .1 .1 .0) (c .before .before .before .before .before .before .before .before .before .before .before .drop-least .kept .1 .1 .1 .1 .1 .1 .0) (c .before .before .before .before .before .before .before .before .before .before .before .drop-least .kept .1 .1 .1 .1 .1 .1 .1 .0) (c .before .before .before .before .before .before .before .before .before .before .before .drop-least .kept .1 .1 .1 .1 .1 .1 .1 .1 .0) (c .before .before .before .before .before .before .before .before .before .before .before .drop-least .kept .1 .1 .1 .1 .1 .1 .1 .1 .1 .0)
+loop-again c = drops-next (c .before .before .before .before .before .before .before .before .before .before .before .before .before .before .before .before .before .before .before .before .before .loop .inv) _ _ _ _ _ _ _ _ _ (c .before .before .before .before .before .before .before .before .before .before .before .before .before .before .before .before .before .before .before .before .loop-test .taken) (c .before .before .before .before .before .before .before .before .before .before .before .before .before .before .before .before .before .before .before .before .before .before .before .before .before .pre .2) (c .before .before .before .before .before .before .before .before .before .before .before .before .before .before .before .before .before .before .before .before .before .before .before .before .before .pre .3) (c .before .before .before .before .before .before .before .before .before .before .before .drop-least .ensures) (c .before .before .before .before .before .before .before .before .before .before .before .drop-least .kept .0) (c .before .before .before .before .before .before .before .before .before .before .before .drop-least .kept .1 .0) (c .before .before .before .before .before .before .before .before .before .before .before .drop-least .kept .1 .1 .0) (c .before .before .before .before .before .before .before .before .before .before .before .drop-least .kept .1 .1 .1 .1 .1 .1 .1 .1 .1 .1 .1 .0) (c .before .before .before .before .before .before .before .before .before .before .before .drop-least .kept .1 .1 .1 .1 .1 .1 .1 .0) (c .before .before .before .before .before .before .before .before .before .before .before .drop-least .kept .1 .1 .1 .1 .1 .1 .1 .1 .0) (c .before .before .before .before .before .before .before .before .before .before .before .drop-least .kept .1 .1 .1 .1 .1 .1 .1 .1 .1 .0) (c .before .before .before .before .before .before .before .before .before .before .before .drop-least .kept .1 .1 .1 .1 .1 .1 .1 .1 .1 .1 .0)
 
 same-length : tie.Need-same-length Inv-loop μ-loop
 same-length c = c .before .loop .inv .numbers-long
