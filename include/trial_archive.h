@@ -179,8 +179,9 @@ extern "C" {
 
 /*
  * The refusals. Rows are checked in this order, save that ta_start checks 4
- * before 1. ta_start and ta_card_load check neither 2 nor 3; for them row 1 is
- * a slice shorter than 8 + 5 * the capacity given.
+ * before 1, and that 18 comes right after 3. ta_start and ta_card_load check
+ * neither 2 nor 3; for them row 1 is a slice shorter than 8 + 5 * the capacity
+ * given.
  */
 enum {
     /* Not a refusal: the call is done. */
