@@ -308,31 +308,27 @@ static void counts_6_and_7(void)
     CHECK(is_answer(joint(1, 2), TA_DONE, 8));
 }
 
-static void count_8(void)
+/* The card thinned to two trials by a rule: `second` goes after trial 4, `left` and `right` stay. */
+static void count_8_by(uint64_t rule, uint64_t second, uint64_t left, uint64_t right)
 {
     insert_card(4);
     CHECK(TA_LOG_WORDS(words[TA_COUNT], 2) == 4);
-    CHECK(is_least(least(TA_TIE_LOWEST), TA_DONE, 4, 1));
-    CHECK(is_answer(reduce(2, TA_TIE_LOWEST, 6), TA_DONE, 2));
+    CHECK(is_least(least(rule), TA_DONE, 4, 1));
+    CHECK(is_answer(reduce(2, rule, 6), TA_DONE, 2));
     CHECK(log_words[0] == 4 && log_words[1] == 1);
-    CHECK(log_words[2] == 1 && log_words[3] == 4);
+    CHECK(log_words[2] == second && log_words[3] == 4);
     check_log(4);
     CHECK(words[TA_COUNT] == 2);
     CHECK(words[TA_TOTAL] == 16);
-    CHECK(contribution(2) == 4);
-    CHECK(contribution(3) == 4);
+    CHECK(contribution(left) == 4);
+    CHECK(contribution(right) == 4);
     CHECK(is_answer(audit(), TA_DONE, 1));
+}
 
-    insert_card(4);
-    CHECK(is_least(least(TA_TIE_HIGHEST), TA_DONE, 4, 1));
-    CHECK(is_answer(reduce(2, TA_TIE_HIGHEST, 6), TA_DONE, 2));
-    CHECK(log_words[0] == 4 && log_words[1] == 1);
-    CHECK(log_words[2] == 3 && log_words[3] == 4);
-    check_log(4);
-    CHECK(words[TA_TOTAL] == 16);
-    CHECK(contribution(1) == 4);
-    CHECK(contribution(2) == 4);
-    CHECK(is_answer(audit(), TA_DONE, 1));
+static void count_8(void)
+{
+    count_8_by(TA_TIE_LOWEST, 1, 2, 3);
+    count_8_by(TA_TIE_HIGHEST, 3, 1, 2);
 }
 
 /* Ties by both rules, and row 18 behind rows 1 to 3 and before the others. */
