@@ -58,7 +58,9 @@ BEGIN {
     c_type["*mut u64"] = c_type["&mut [u64]"] = "uint64_t *"
     c_type["*const u8"] = c_type["&[u8]"] = "const uint8_t *"
     c_type["*mut u8"] = c_type["&mut [u8]"] = "uint8_t *"
+    c_type["i64"] = "int64_t "
     c_type["Answer"] = "ta_answer "
+    c_type["Change"] = "ta_change "
     c_type["LeastAnswer"] = "ta_least_answer "
     c_type["Loaded"] = c_type["LoadAnswer"] = "ta_load_answer "
 }

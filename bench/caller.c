@@ -1,11 +1,12 @@
 /*
  * A caller of every call: document 01's card and report, its "Counts to meet",
- * shares at their ties, the front and archives kept from before it, one meeting
- * with each refusal, coordinates on both sides of every limit, numbers as C
- * passes them, and what the header defines: the structs' fields and the
- * lengths. Lent memory stands between guards, and
- * what a call only reads is compared after it. Prints what went wrong, and at
- * the end 'N passed, M failed'; ends with 1 where something failed.
+ * shares at their ties, replacements up to the largest, the front and archives
+ * kept from before it, ties by both rules, one meeting with each refusal,
+ * coordinates on both sides of every limit, numbers as C passes them, and what
+ * the header defines: the structs' fields and the lengths. Lent memory stands
+ * between guards, and what a call only reads is compared after it. Prints what
+ * went wrong, and at the end 'N passed, M failed'; ends with 1 where something
+ * failed.
  */
 #include "trial_archive.h"
 
@@ -129,6 +130,11 @@ static int is_least(ta_least_answer answer, uint64_t refusal, uint64_t number,
         && answer.contribution == contribution_of_it;
 }
 
+static int is_change(ta_change answer, uint64_t refusal, int64_t difference)
+{
+    return answer.refusal == refusal && answer.difference == difference;
+}
+
 static int is_load(ta_load_answer answer, uint64_t refusal, uint64_t line, uint64_t count)
 {
     return answer.refusal == refusal && answer.line == line && answer.count == count;
@@ -165,6 +171,16 @@ static ta_answer gain(uint64_t x, uint64_t y, uint64_t z)
 
     remember(lent);
     answer = ta_gain(words, LENT, x, y, z);
+    check_untouched(lent);
+    return answer;
+}
+
+static ta_change replace_effect(uint64_t number, uint64_t x, uint64_t y, uint64_t z)
+{
+    ta_change answer;
+
+    remember(lent);
+    answer = ta_replace_effect(words, LENT, number, x, y, z);
     check_untouched(lent);
     return answer;
 }
@@ -467,6 +483,40 @@ static void random_shares(void)
     CHECK(wrong == 0);
 }
 
+/* ---- what a replacement would change */
+
+static void replacements(void)
+{
+    const uint64_t most = TA_MAX_REFERENCE;
+    const int64_t whole = (int64_t)1 << 60;
+
+    insert_card(4);
+    CHECK(is_change(replace_effect(4, 0, 0, 0), TA_DONE, 43));
+    CHECK(is_change(replace_effect(4, 1, 1, 3), TA_DONE, 0));
+    CHECK(is_change(replace_effect(4, 5, 0, 0), TA_DONE, -1));
+    CHECK(is_change(replace_effect(3, 4, 4, 4), TA_DONE, -4));
+    CHECK(is_change(replace_effect(3, 2, 1, 2), TA_DONE, -4));
+    /* the counts decide, not what is kept */
+    words[TA_TOTAL] = 0;
+    words[TA_FRONT] = 0;
+    words[TA_RECORDS + 4] = 64;
+    CHECK(is_answer(audit(), TA_DONE, 0));
+    CHECK(is_change(replace_effect(4, 0, 0, 0), TA_DONE, 43));
+    CHECK(is_change(replace_effect(3, 4, 4, 4), TA_DONE, -4));
+    /* rows 9 and 6, in this order */
+    CHECK(is_change(replace_effect(5, TA_MAX_COORDINATE + 1, 0, 0), TA_NOT_HELD, 0));
+    CHECK(is_change(replace_effect(0, 0, 0, 0), TA_NOT_HELD, 0));
+    CHECK(is_change(replace_effect(4, 0, TA_MAX_COORDINATE + 1, 0), TA_BAD_COORDINATE, 0));
+    CHECK(is_change(replace_effect(4, 0, 0, UINT64_MAX), TA_BAD_COORDINATE, 0));
+
+    start(most, most, most);
+    CHECK(insert(1, 0, 0, 0) == TA_DONE);
+    CHECK(is_change(replace_effect(1, most, 0, 0), TA_DONE, -whole));
+    CHECK(remove_trial(1) == TA_DONE);
+    CHECK(insert(1, 0, most, 0) == TA_DONE);
+    CHECK(is_change(replace_effect(1, 0, 0, 0), TA_DONE, whole));
+}
+
 /* ---- the front, word 6 */
 
 static void fronts(void)
@@ -641,6 +691,7 @@ static void check_row(uint64_t row, size_t len)
     CHECK(is_answer(ta_reduce(words, len, 0, TA_TIE_LOWEST, log_words, LOG), row, 0));
     CHECK(is_answer(ta_joint(words, len, 1, 2), row, 0));
     CHECK(is_answer(ta_gain(words, len, 0, 0, 0), row, 0));
+    CHECK(is_change(ta_replace_effect(words, len, 1, 0, 0, 0), row, 0));
     CHECK(is_answer(ta_share(words, len), row, 0));
     CHECK(is_answer(ta_audit(words, len), row, 0));
     CHECK(is_answer(write_report(len, OUT), row, 0));
@@ -813,6 +864,7 @@ static void numbers_too_wide(void)
             CHECK(insert(1, at[0], at[1], at[2]) == TA_BAD_COORDINATE);
             CHECK(insert(7, at[0], at[1], at[2]) == TA_BAD_COORDINATE);
             CHECK(is_answer(gain(at[0], at[1], at[2]), TA_BAD_COORDINATE, 0));
+            CHECK(is_change(replace_effect(1, at[0], at[1], at[2]), TA_BAD_COORDINATE, 0));
             check_untouched(before);
         }
     }
@@ -858,6 +910,9 @@ HOLDS(least_is_three_words, sizeof(ta_least_answer) == 24);
 HOLDS(least_refusal_first, offsetof(ta_least_answer, refusal) == 0);
 HOLDS(least_number_second, offsetof(ta_least_answer, number) == 8);
 HOLDS(least_contribution_third, offsetof(ta_least_answer, contribution) == 16);
+HOLDS(change_is_two_words, sizeof(ta_change) == 16);
+HOLDS(change_refusal_first, offsetof(ta_change, refusal) == 0);
+HOLDS(change_difference_second, offsetof(ta_change, difference) == 8);
 HOLDS(load_is_three_words, sizeof(ta_load_answer) == 24);
 HOLDS(load_refusal_first, offsetof(ta_load_answer, refusal) == 0);
 HOLDS(load_line_second, offsetof(ta_load_answer, line) == 8);
@@ -941,6 +996,7 @@ int main(void)
     counts_9_to_11();
     ties_of_shares();
     random_shares();
+    replacements();
     fronts();
     kept_from_before();
     card_and_report();

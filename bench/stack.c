@@ -31,6 +31,7 @@ static void least(void) { answer = ta_least(words, len, TA_TIE_LOWEST).refusal; 
 static void reduce(void) { answer = ta_reduce(words, len, 0, TA_TIE_LOWEST, log_words, 2 * TA_MAX_CAPACITY).refusal; }
 static void joint(void) { answer = ta_joint(words, len, 2, 3).refusal; }
 static void gain(void) { answer = ta_gain(words, len, 1, 2, 3).refusal; }
+static void replace_effect(void) { answer = ta_replace_effect(words, len, 2, 0, 0, 0).refusal; }
 static void share(void) { answer = ta_share(words, len).refusal; }
 static void audit(void) { answer = ta_audit(words, len).refusal; }
 static void card_check(void) { answer = ta_card_check(card, sizeof card); }
@@ -94,9 +95,10 @@ int main(void)
        removal makes room, and the reduction comes last. */
     static const struct { const char *name; void (*call)(void); } calls[] = {
         {"ta_start", start}, {"ta_card_check", card_check}, {"ta_card_load", card_load},
-        {"ta_least", least}, {"ta_joint", joint}, {"ta_gain", gain}, {"ta_share", share},
-        {"ta_audit", audit}, {"ta_report", report}, {"ta_remove", remove_trial},
-        {"ta_insert", insert}, {"ta_reduce", reduce},
+        {"ta_least", least}, {"ta_joint", joint}, {"ta_gain", gain},
+        {"ta_replace_effect", replace_effect}, {"ta_share", share}, {"ta_audit", audit},
+        {"ta_report", report}, {"ta_remove", remove_trial}, {"ta_insert", insert},
+        {"ta_reduce", reduce},
     };
     size_t base;
     size_t i;

@@ -179,9 +179,9 @@ extern "C" {
 
 /*
  * The refusals. Rows are checked in this order, save that ta_start checks 4
- * before 1, and that 18 comes right after 3. ta_start and ta_card_load check
- * neither 2 nor 3; for them row 1 is a slice shorter than 8 + 5 * the capacity
- * given.
+ * before 1, ta_replace_effect 9 before 6, and 18 comes right after 3. ta_start
+ * and ta_card_load check neither 2 nor 3; for them row 1 is a slice shorter
+ * than 8 + 5 * the capacity given.
  */
 enum {
     /* Not a refusal: the call is done. */
@@ -199,13 +199,13 @@ enum {
     TA_BAD_START = 4,
     /* Insert: trial number out of range. */
     TA_BAD_NUMBER = 5,
-    /* Insert, gain: a coordinate above 1,048,576. */
+    /* Insert, gain, replace-effect: a coordinate above 1,048,576. */
     TA_BAD_COORDINATE = 6,
     /* Insert: number already held. */
     TA_NUMBER_HELD = 7,
     /* Insert: count equals capacity. */
     TA_FULL = 8,
-    /* Remove, joint: number not held (either one). */
+    /* Remove, joint, replace-effect: number not held (either one). */
     TA_NOT_HELD = 9,
     /* Joint: the same number twice. */
     TA_SAME_NUMBER = 10,
@@ -244,6 +244,12 @@ typedef struct ta_least_answer {
     uint64_t number;
     uint64_t contribution;
 } ta_least_answer;
+
+/* A refusal, or 0 and a difference of two counts of cells. */
+typedef struct ta_change {
+    uint64_t refusal;
+    int64_t difference;
+} ta_change;
 
 /* A refusal and the card line that it is for (from 1), or 0, 0 and the count
    of trials loaded. */
@@ -310,6 +316,15 @@ ta_answer ta_joint(const uint64_t *words, size_t len,
  */
 ta_answer ta_gain(const uint64_t *words, size_t len,
                   uint64_t x, uint64_t y, uint64_t z);
+
+/*
+ * What replacing a trial held by a new point would change: the counted total
+ * afterwards less the counted total before, from -2^60 to 2^60, whatever total
+ * is kept. 0 for a point equal to the trial's own. The archive is not touched.
+ * Refusals, in this order: 1 to 3, 9, 6.
+ */
+ta_change ta_replace_effect(const uint64_t *words, size_t len, uint64_t number,
+                            uint64_t x, uint64_t y, uint64_t z);
 
 /*
  * The kept total in millionths of the box, rounded to the nearest; a tie goes

@@ -108,6 +108,12 @@ impl Archive {
         words::gain(&self.words, point)
     }
 
+    /// What replacing the trial by the point would change: the counted total afterwards less the
+    /// counted total before.
+    pub fn replace_effect(&self, number: u64, point: [u32; 3]) -> Result<i64, Refusal> {
+        words::replace_effect(&self.words, number, point)
+    }
+
     /// The total in millionths of the box, rounded to the nearest; a tie goes to the even number.
     pub fn share(&self) -> Result<u64, Refusal> {
         words::share(&self.words)

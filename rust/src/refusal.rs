@@ -20,13 +20,13 @@ pub enum Refusal {
     BadStart = 4,
     /// Insert: trial number out of range.
     BadNumber = 5,
-    /// Insert, gain: a coordinate above 1,048,576.
+    /// Insert, gain, replace-effect: a coordinate above 1,048,576.
     BadCoordinate = 6,
     /// Insert: number already held.
     NumberHeld = 7,
     /// Insert: count equals capacity.
     Full = 8,
-    /// Remove, joint: number not held (either one).
+    /// Remove, joint, replace-effect: number not held (either one).
     NotHeld = 9,
     /// Joint: the same number twice.
     SameNumber = 10,

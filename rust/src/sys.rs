@@ -21,6 +21,14 @@ pub struct LeastAnswer {
     pub contribution: u64,
 }
 
+/// A refusal, or 0 and a difference of two counts of cells.
+#[repr(C)]
+#[derive(Clone, Copy, Debug, PartialEq, Eq)]
+pub struct Change {
+    pub refusal: u64,
+    pub difference: i64,
+}
+
 /// A refusal and its card line, or 0, 0 and the count of trials loaded.
 #[repr(C)]
 #[derive(Clone, Copy, Debug, PartialEq, Eq)]
@@ -51,6 +59,15 @@ extern "C" {
     pub fn ta_joint(words: *const u64, len: usize, first: u64, second: u64) -> Answer;
 
     pub fn ta_gain(words: *const u64, len: usize, x: u64, y: u64, z: u64) -> Answer;
+
+    pub fn ta_replace_effect(
+        words: *const u64,
+        len: usize,
+        number: u64,
+        x: u64,
+        y: u64,
+        z: u64,
+    ) -> Change;
 
     pub fn ta_share(words: *const u64, len: usize) -> Answer;
 

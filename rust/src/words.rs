@@ -75,6 +75,16 @@ pub fn gain(words: &[u64], point: [u32; 3]) -> Result<u64, Refusal> {
     value(unsafe { sys::ta_gain(words.as_ptr(), words.len(), x, y, z) })
 }
 
+/// What replacing the trial by the point would change: the counted total afterwards less the counted
+/// total before. The archive is not touched.
+pub fn replace_effect(words: &[u64], number: u64, point: [u32; 3]) -> Result<i64, Refusal> {
+    let [x, y, z] = point.map(u64::from);
+    // SAFETY: pointer and length are those of one slice borrowed for the call.
+    let answer = unsafe { sys::ta_replace_effect(words.as_ptr(), words.len(), number, x, y, z) };
+    Refusal::check(answer.refusal)?;
+    Ok(answer.difference)
+}
+
 /// The kept total in millionths of the box, rounded to the nearest; a tie goes to the even number.
 pub fn share(words: &[u64]) -> Result<u64, Refusal> {
     // SAFETY: pointer and length are those of one slice borrowed for the call.

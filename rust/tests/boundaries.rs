@@ -33,6 +33,7 @@ fn calls() -> Vec<Call> {
         Call::Reduce { k: 2, rule: 0, log: vec![91, 92, 93, 94, 95] },
         Call::Joint { first: 1, second: 2 },
         Call::Gain { point: [0, 3, 0] },
+        Call::ReplaceEffect { number: 4, point: [0, 3, 0] },
         Call::Share,
         Call::Audit,
         Call::Report { out: vec![88; 53 * 5 + 2] },

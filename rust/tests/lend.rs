@@ -16,6 +16,7 @@ pub enum Call {
     Reduce { k: u64, rule: u64, log: Vec<u64> },
     Joint { first: u64, second: u64 },
     Gain { point: Point },
+    ReplaceEffect { number: u64, point: Point },
     Share,
     Audit,
     Check { card: Vec<u8> },
@@ -33,6 +34,7 @@ impl Call {
             Call::Reduce { .. } => "reduce",
             Call::Joint { .. } => "joint",
             Call::Gain { .. } => "gain",
+            Call::ReplaceEffect { .. } => "replace_effect",
             Call::Share => "share",
             Call::Audit => "audit",
             Call::Check { .. } => "check",
@@ -46,7 +48,8 @@ impl Call {
         match self {
             Call::Start { reference: point, .. }
             | Call::Insert { point, .. }
-            | Call::Gain { point } => Some(*point),
+            | Call::Gain { point }
+            | Call::ReplaceEffect { point, .. } => Some(*point),
             _ => None,
         }
     }
@@ -57,7 +60,9 @@ impl Call {
         let past = |p: &[u64]| (0..3).any(|axis| p[axis] > words[2 + axis]);
         match self {
             Call::Start { .. } | Call::Check { .. } | Call::Load { .. } => false,
-            Call::Insert { point, .. } | Call::Gain { point } => past(point),
+            Call::Insert { point, .. }
+            | Call::Gain { point }
+            | Call::ReplaceEffect { point, .. } => past(point),
             _ => words[8..8 + 5 * words[0] as usize].chunks(5).any(|r| past(&r[1..4])),
         }
     }
@@ -229,6 +234,9 @@ fn by_reference(call: &Call, lent: &[u64]) -> Outcome {
         Call::Reduce { k, rule, .. } => double(calls::reduce(&mut words, *k, *rule, &mut log)),
         Call::Joint { first, second } => double(calls::joint(&words, *first, *second)),
         Call::Gain { point } => double(calls::gain(&words, *point)),
+        Call::ReplaceEffect { number, point } => {
+            change(calls::replace_effect(&words, *number, *point))
+        }
         Call::Share => double(calls::share(&words)),
         Call::Audit => double(calls::audit(&words).map(u64::from)),
         Call::Check { .. } => vec![cards::check(&card)],
@@ -243,6 +251,11 @@ fn by_reference(call: &Call, lent: &[u64]) -> Outcome {
 
 fn single(result: Result<(), u64>) -> Vec<u64> {
     vec![result.err().unwrap_or(0)]
+}
+
+/// A difference stands as the word that has its bits.
+fn change(result: Result<i64, u64>) -> Vec<u64> {
+    double(result.map(|difference| difference as u64))
 }
 
 fn double(result: Result<u64, u64>) -> Vec<u64> {
@@ -319,6 +332,10 @@ fn by_c(call: &Call, lent: &[u64]) -> Outcome {
                 fields(sys::ta_joint(words.ptr(), len, *first, *second))
             }
             Call::Gain { point: [x, y, z] } => fields(sys::ta_gain(words.ptr(), len, *x, *y, *z)),
+            Call::ReplaceEffect { number, point: [x, y, z] } => {
+                let answer = sys::ta_replace_effect(words.ptr(), len, *number, *x, *y, *z);
+                vec![answer.refusal, answer.difference as u64]
+            }
             Call::Share => fields(sys::ta_share(words.ptr(), len)),
             Call::Audit => fields(sys::ta_audit(words.ptr(), len)),
             Call::Check { .. } => vec![sys::ta_card_check(card.ptr(), card.len())],
@@ -357,6 +374,9 @@ fn by_safe(call: &Call, lent: &[u64]) -> Outcome {
         Call::Reduce { k, .. } => double(numbered(words::reduce(&mut memory, *k, rule, &mut log))),
         Call::Joint { first, second } => double(numbered(words::joint(&memory, *first, *second))),
         Call::Gain { .. } => double(numbered(words::gain(&memory, point))),
+        Call::ReplaceEffect { number, .. } => {
+            change(numbered(words::replace_effect(&memory, *number, point)))
+        }
         Call::Share => double(numbered(words::share(&memory))),
         Call::Audit => double(numbered(words::audit(&memory)).map(u64::from)),
         Call::Check { .. } => match check_card(&card) {

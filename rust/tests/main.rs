@@ -11,6 +11,7 @@ mod histories;
 mod lend;
 mod random_calls;
 mod reference;
+mod replacing;
 mod rng;
 mod scenes;
 mod shares;

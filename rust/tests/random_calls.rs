@@ -60,13 +60,25 @@ fn run(percent: u64, size: Size) {
     tally.covers("reduce", &[0, 1, 2, 3, 11, 12, 13, 18]);
     tally.covers("joint", &[0, 1, 2, 3, 9, 10]);
     tally.covers("gain", &[0, 1, 2, 3, 6]);
+    tally.covers("replace_effect", &[0, 1, 2, 3, 6, 9]);
     tally.covers("share", &[0, 1, 2, 3]);
     tally.covers("audit", &[0, 1, 2, 3]);
     tally.covers("report", &[0, 1, 2, 3, 16]);
-    for call in ["start", "insert", "gain"] {
+    for call in ["start", "insert", "gain", "replace_effect"] {
         tally.covers_wide(call);
     }
-    let all = ["insert", "remove", "least", "reduce", "joint", "gain", "share", "audit", "report"];
+    let all = [
+        "insert",
+        "remove",
+        "least",
+        "reduce",
+        "joint",
+        "gain",
+        "replace_effect",
+        "share",
+        "audit",
+        "report",
+    ];
     for call in all {
         tally.covers_beyond(call);
     }

@@ -277,7 +277,7 @@ pub fn part(rng: &mut Rng, words: &[u64], needed: usize) -> usize {
 pub fn call(rng: &mut Rng, shape: &Shape, words: &[u64]) -> Call {
     let archive =
         calls::read(words).unwrap_or_else(|_| Archive::empty(shape.reference, shape.capacity));
-    match rng.within(0..=24) {
+    match rng.within(0..=26) {
         0..=6 => Call::Insert {
             number: number(rng, shape, &archive, 25),
             point: point(rng, shape, &archive),
@@ -294,8 +294,20 @@ pub fn call(rng: &mut Rng, shape: &Shape, words: &[u64]) -> Call {
         20 => Call::Share,
         21 => Call::Audit,
         22 => start(rng, shape),
-        _ => report(rng, &archive),
+        23 | 24 => report(rng, &archive),
+        _ => replace_effect(rng, shape, &archive),
     }
+}
+
+/// A trial that is mostly held, and a point: any, or the trial's own.
+fn replace_effect(rng: &mut Rng, shape: &Shape, archive: &Archive) -> Call {
+    let number = number(rng, shape, archive, 90);
+    let own = archive.position(number).map(|position| archive.points()[position]);
+    let point = match own {
+        Some(own) if rng.chance(10) => own,
+        _ => point(rng, shape, archive),
+    };
+    Call::ReplaceEffect { number, point }
 }
 
 /// A number of more than 32 bits, often one that a cut to 32 bits would make 0, 1 or this one.

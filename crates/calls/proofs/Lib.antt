@@ -14,3 +14,4 @@ pub mod Lent
 pub mod Shares
 pub mod Earlier
 pub mod Fewest
+pub mod Replacement

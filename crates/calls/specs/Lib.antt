@@ -7,3 +7,4 @@ pub mod Counted
 pub mod Drops
 pub mod Earlier
 pub mod Fewest
+pub mod Replacement

@@ -1,5 +1,6 @@
 // What the calls on an archive answer. What each call is stands in specs/; the code that does it is in the crates above.
 ghost use mathlib.Core.Path.{_≡_};
+ghost use lib.IntN.{pos};
 
 // An answer of one number: the refusal (0 when done), and the value (0 in a refusal).
 #[repr(C)]
@@ -38,6 +39,33 @@ impl LeastAnswer {
             refusal,
             number: 0,
             contribution: 0,
+        }
+    }
+}
+
+// The answer of what a replacement would change: the refusal (0 when done), and the difference (0 in a refusal).
+#[repr(C)]
+pub struct Change {
+    pub refusal: u64,
+    pub difference: i64,
+}
+
+impl Change {
+    pub fn refused(refusal: u64) -> Change
+        ensures { λ r. ⌜ r ≡ record { refusal = refusal; difference = pos 0 } ⌝ }
+    {
+        Change {
+            refusal,
+            difference: 0,
+        }
+    }
+
+    pub fn done(difference: i64) -> Change
+        ensures { λ r. ⌜ r ≡ record { refusal = 0; difference = difference } ⌝ }
+    {
+        Change {
+            refusal: 0,
+            difference,
         }
     }
 }

@@ -23,6 +23,8 @@ use Rattle.calls.specs.Calls.{empty, inserted, removed, least-row, least-rows, 
 use Rattle.calls.specs.declared.Answer.{Answer}
 use Rattle.calls.specs.Lent
 use Rattle.calls.specs.Lent.{Outcome, leaves, answer, least-answer, start-rows}
+use Rattle.calls.specs.Replacement
+use Rattle.calls.specs.Replacement.{change-of, replace-rows, change}
 use Rattle.calls.proofs.Answers.{rows-refused}
 use Rattle.calls.proofs.Counted.{audited-counted}
 use Rattle.calls.proofs.Sound.{insert-passed, remove-passed, inserted-sound, removed-sound}
@@ -36,7 +38,7 @@ use Rattle.history.proofs.Histories.{holds-front, holds-behind}
 use Rattle.reports.specs.Report
 use Rattle.reports.specs.Report.{report-text, report-rows, output, reported}
 use Rattle.terms.specs.Loading.{no-numbers, numbers-on, card-shape}
-use Rattle.terms.specs.Behind.{ArchiveCall, written, only-read, result, capacity-for, reach, DoneAlike, WordsBehind}
+use Rattle.terms.specs.Behind.{sides, ArchiveCall, written, only-read, result, capacity-for, reach, DoneAlike, WordsBehind}
 use Rattle.terms.proofs.Loading.{card-begun}
 use Rattle.terms.proofs.Seen.{Alike, Seen, turned-down, held, seen}
 
@@ -218,7 +220,7 @@ abbrev as-numbers : Answer → List ℕ
 as-numbers a = a .refusal ∷ a .value ∷ []
 
 long-alike : (c : ArchiveCall) (v w : List ℕ) → Alike (reach c v) v w → DoneAlike c v w
-unfolding reach capacity-for extent result only-read Lent.insert Lent.remove Lent.reduce Lent.least Lent.joint Lent.gain-answer Lent.share Lent.audit Report.report reported report-rows least-answer output
+unfolding reach capacity-for extent result only-read Lent.insert Lent.remove Lent.reduce Lent.least Lent.joint Lent.gain-answer Lent.share Lent.audit Replacement.replace-effect change Report.report reported report-rows least-answer output
 long-alike (ArchiveCall.start s) v w h =
     outcomes-alike _ v w _ _ refl refl (start-alike s v w h)
 long-alike (ArchiveCall.insert t) v w h =
@@ -236,6 +238,9 @@ long-alike (ArchiveCall.joint m n) v w h =
 long-alike (ArchiveCall.gain p) v w h =
     let same = answers-alike (λ a. gain-rows p) (λ a. insert-gain a p) v w h in
     record { answer = ap as-numbers same; words = h .same; other = refl }
+long-alike (ArchiveCall.replace-effect n p) v w h =
+    let same = question (λ a. replace-rows a n p) (λ k a. change k (change-of a n p)) (λ k a b. refl) v w h in
+    record { answer = ap (λ a. a .refusal ∷ sides (a .difference)) same; words = h .same; other = refl }
 long-alike ArchiveCall.share v w h =
     let same = answers-alike (λ a. 0) share-of v w h in
     record { answer = ap as-numbers same; words = h .same; other = refl }
@@ -280,6 +285,7 @@ not-written (ArchiveCall.reduce k rule log) w = deed-behind (reduce-deed k rule 
 not-written (ArchiveCall.least rule) w = refl
 not-written (ArchiveCall.joint m n) w = refl
 not-written (ArchiveCall.gain p) w = refl
+not-written (ArchiveCall.replace-effect n p) w = refl
 not-written ArchiveCall.share w = refl
 not-written ArchiveCall.audit w = refl
 not-written (ArchiveCall.load card) w = load-behind w card

@@ -1,14 +1,16 @@
 -- "Words from 8 + 5 × capacity on are neither read nor written" (document 01, "The archive's words"), of every call that
 -- is lent an archive slice.
-use Prim.Native.Nat.{ℕ, _+_, _*_}
+use Prim.Native.Nat.{ℕ, suc, _+_, _*_}
 use mathlib.Core.Path.{_≡_}
 use mathlib.Core.List.{List, _∷_, []}
 use lib.ListN.{take, drop}
+use lib.IntN.{ℤ, pos, negsuc}
 use Rattle.words.specs.Archive.{Trial, Shape}
 use Rattle.words.specs.Layout.{word}
 use Rattle.calls.specs.declared.Answer.{Answer}
 use Rattle.calls.specs.Lent
 use Rattle.calls.specs.Lent.{Outcome}
+use Rattle.calls.specs.Replacement
 use Rattle.card.specs.Card
 use Rattle.reports.specs.Report
 use Rattle.reports.specs.Report.{reported}
@@ -23,6 +25,7 @@ pub data ArchiveCall : Type 0 where
   reduce : (k rule : ℕ) (log : List ℕ) → ArchiveCall
   joint : (m n : ℕ) → ArchiveCall
   gain : (p : Trial) → ArchiveCall
+  replace-effect : (n : ℕ) (p : Trial) → ArchiveCall
   share : ArchiveCall
   audit : ArchiveCall
   load : (card : List ℕ) → ArchiveCall
@@ -43,6 +46,11 @@ written o = record { answer = o .refusal ∷ o .value ∷ []; words = o .words; 
 unfoldable pub only-read : List ℕ → Answer → Result
 only-read w a = record { answer = a .refusal ∷ a .value ∷ []; words = w; other = [] }
 
+-- A number with a sign: how far it is above 0, and how far below.
+unfoldable pub sides : ℤ → List ℕ
+sides (pos n) = n ∷ 0 ∷ []
+sides (negsuc n) = 0 ∷ suc n ∷ []
+
 -- By the definitions that the contracts of the exported functions cite.
 unfoldable pub result : ArchiveCall → List ℕ → Result
 result (start s) w = written (Lent.start w s)
@@ -57,6 +65,12 @@ result (least rule) w =
 result (reduce k rule log) w = written (Lent.reduce w k rule log)
 result (joint m n) w = only-read w (Lent.joint w m n)
 result (gain p) w = only-read w (Lent.gain-answer w p)
+result (replace-effect n p) w =
+    record {
+      answer = Replacement.replace-effect w n p .refusal ∷ sides (Replacement.replace-effect w n p .difference);
+      words = w;
+      other = [];
+    }
 result share w = only-read w (Lent.share w)
 result audit w = only-read w (Lent.audit w)
 result (load card) w =
@@ -81,6 +95,7 @@ capacity-for (least rule) w = word w 1
 capacity-for (reduce k rule log) w = word w 1
 capacity-for (joint m n) w = word w 1
 capacity-for (gain p) w = word w 1
+capacity-for (replace-effect n p) w = word w 1
 capacity-for share w = word w 1
 capacity-for audit w = word w 1
 capacity-for (load card) w = card-shape card .capacity

@@ -1,10 +1,12 @@
 // The C boundary: one exported function per call, each with the contract of the call itself. `include/trial_archive.h`
 // documents them for C.
 use calls::Answer;
+use calls::Change;
 use calls::LeastAnswer;
 use card::Loaded;
 ghost use mathlib.Core.Path.{_≡_};
 ghost use Rattle.calls.specs.Lent.{start, insert, remove, least, reduce, joint, gain-answer, share, audit, trial-of, shape-of, MeetsOutcome};
+ghost use Rattle.calls.specs.Replacement.{replace-effect};
 ghost use Rattle.card.specs.Card.{load};
 ghost use Rattle.card.specs.Check.{check};
 ghost use Rattle.reports.specs.Report.{report, reported};
@@ -56,6 +58,13 @@ pub extern "C" fn ta_gain(words: &[u64], x: u64, y: u64, z: u64) -> Answer
     ensures { λ r. ⌜ r ≡ gain-answer (now (words .entry)) (trial-of 0 x y z) ⌝ }
 {
     ask::gain(words, x, y, z)
+}
+
+#[no_mangle]
+pub extern "C" fn ta_replace_effect(words: &[u64], number: u64, x: u64, y: u64, z: u64) -> Change
+    ensures { λ r. ⌜ r ≡ replace-effect (now (words .entry)) number (trial-of 0 x y z) ⌝ }
+{
+    replacement::replace_effect(words, number, x, y, z)
 }
 
 #[no_mangle]

@@ -234,6 +234,19 @@ fn nearest(dividend: u128, divisor: u128) -> u128 {
     [below, below + 1].into_iter().min_by_key(|&number| (from(number), number % 2)).unwrap()
 }
 
+/// "What replacing trial a by a new point would do: the total afterwards less the total before"; both are
+/// counted from nothing. "Order: rows 1 to 3, 9, 6."
+pub fn replace_effect(words: &[u64], number: u64, point: Point) -> Result<i64, u64> {
+    let archive = read(words)?;
+    let position = archive.position(number).ok_or(9_u64)?;
+    refuse_if(!coordinates_allowed(point), 6)?;
+    let mut points = archive.points();
+    let before = totals(&points, archive.reference).covered;
+    points[position] = point;
+    let after = totals(&points, archive.reference).covered;
+    Ok(after as i64 - before as i64)
+}
+
 pub fn share(words: &[u64]) -> Result<u64, u64> {
     let archive = read(words)?;
     let millionths = u128::from(archive.total) * 1_000_000;
