@@ -38,7 +38,7 @@ unfoldable pub change : ℕ → ℤ → Change
 change zero d = record { refusal = 0; difference = d }
 change (suc r) d = record { refusal = suc r; difference = pos 0 }
 
--- Replace-effect (number, point).
+-- Replace-effect (number, point). Of the trial t only the point counts.
 unfoldable pub replace-effect : List ℕ → ℕ → Trial → Change
 replace-effect w n t = change (archive-rows w (replace-rows (read w) n t)) (change-of (read w) n t)
 

@@ -1,30 +1,29 @@
 -- The difference of two counts fits an i64, and the code's casts keep the counts.
-use Prim.Native.Nat.{ℕ, zero, suc, _+_, _-_, _^_, _≤_, _<_}
+use Prim.Native.Nat.{ℕ, _^_, _≤_, _<_}
 use mathlib.Core.Path.{_≡_, ap, sym, _∙_, subst}
-use mathlib.Core.Bool.{Bool, true, false, cond}
+use native.Mathlib.Nat.{le-trans}
 use native.Mathlib.Omega.{arith}
-use lib.Dec.{ltb}
-use lib.IntN.{ℤ, pos, negsuc, _-ℤ_}
+use lib.IntN.{ℤ, pos, negsuc, _-ℤ_, natAbs}
 use lib.Signed.{mag}
 use mir.Syntax.{w64}
 use mir.Val.{SFits, toZ, ofZ}
 use mir.Facts.{toZ-pos, toZ-ofZ}
 use Rattle.calls.specs.Replacement.{difference}
+use Rattle.calls.proofs.Replacement.{difference-bound}
 
 small : (n : ℕ) → n ≤ 1152921504606846976 → n < 2 ^ 63
 small n h = omega arith
 
+-- What has to fit below the sign is at most the size of the number.
+mag-least : (z : ℤ) → mag z ≤ natAbs z
+mag-least (pos n) = omega arith
+mag-least (negsuc n) = omega arith
+
 module _ (a : ℕ) (h : a ≤ 1152921504606846976) where
   plain : (b : ℕ) → b ≤ 1152921504606846976 → mag (pos a -ℤ pos b) < 2 ^ 63
-  plain zero k = none a h
-    where
-      none : (a : ℕ) → a ≤ 1152921504606846976 → a + 0 < 2 ^ 63
-      none a h = omega arith
-  plain (suc b) k = go (ltb a (suc b))
-    where
-      go : (t : Bool) → mag (cond t (negsuc (suc b - suc a)) (pos (a - suc b))) < 2 ^ 63
-      go true = let l : suc b - suc a < 2 ^ 63 = omega (arith, k) in l
-      go false = let l : a - suc b < 2 ^ 63 = omega (arith, h) in l
+  unfolding difference
+  plain b k =
+      small (mag (pos a -ℤ pos b)) (le-trans (mag-least (pos a -ℤ pos b)) (difference-bound a b 1152921504606846976 h k))
 
   module _ (b : ℕ) (k : b ≤ 1152921504606846976) where
     casts : toZ w64 a -ℤ toZ w64 b ≡ pos a -ℤ pos b
