@@ -61,6 +61,7 @@ BEGIN {
     c_type["i64"] = "int64_t "
     c_type["Answer"] = "ta_answer "
     c_type["Change"] = "ta_change "
+    c_type["GridAnswer"] = "ta_grid_answer "
     c_type["LeastAnswer"] = "ta_least_answer "
     c_type["Loaded"] = c_type["LoadAnswer"] = "ta_load_answer "
 }

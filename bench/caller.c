@@ -1,12 +1,12 @@
 /*
  * A caller of every call: document 01's card and report, its "Counts to meet",
- * shares at their ties, replacements up to the largest, the front and archives
- * kept from before it, ties by both rules, one meeting with each refusal,
- * coordinates on both sides of every limit, numbers as C passes them, and what
- * the header defines: the structs' fields and the lengths. Lent memory stands
- * between guards, and what a call only reads is compared after it. Prints what
- * went wrong, and at the end 'N passed, M failed'; ends with 1 where something
- * failed.
+ * shares at their ties, whole grids, replacements up to the largest, the front
+ * and archives kept from before it, ties by both rules, one meeting with each
+ * refusal, coordinates on both sides of every limit, numbers as C passes them,
+ * and what the header defines: the structs' fields and the lengths. Lent memory
+ * stands between guards, and what a call only reads is compared after it.
+ * Prints what went wrong, and at the end 'N passed, M failed'; ends with 1
+ * where something failed.
  */
 #include "trial_archive.h"
 
@@ -128,6 +128,11 @@ static int is_least(ta_least_answer answer, uint64_t refusal, uint64_t number,
 {
     return answer.refusal == refusal && answer.number == number
         && answer.contribution == contribution_of_it;
+}
+
+static int is_grid(ta_grid_answer answer, uint64_t refusal, uint64_t inserted, uint64_t stop)
+{
+    return answer.refusal == refusal && answer.inserted == inserted && answer.stop == stop;
 }
 
 static int is_change(ta_change answer, uint64_t refusal, int64_t difference)
@@ -483,6 +488,71 @@ static void random_shares(void)
     CHECK(wrong == 0);
 }
 
+/* ---- a whole grid of trials in one call */
+
+/* Inserts the first words of a grid, which are only read. */
+static ta_grid_answer insert_grid(const uint64_t *grid, size_t grid_len)
+{
+    uint64_t lent_grid[24];
+    ta_grid_answer answer;
+
+    memcpy(lent_grid, grid, grid_len * sizeof *grid);
+    answer = ta_insert_grid(words, LENT, lent_grid, grid_len);
+    CHECK(memcmp(lent_grid, grid, grid_len * sizeof *grid) == 0);
+    check_guards();
+    return answer;
+}
+
+static void grids(void)
+{
+    static const uint64_t card_grid[] = {1, 1, 2, 2, 2, 2, 1, 2, 3, 2, 2, 1, 4, 1, 1, 3};
+    static const uint64_t wide[] = {5, 0, 0, 0, 6, ((uint64_t)1 << 32) + 1, 0, 0, 7, 0, 0, 0};
+    uint64_t many[4 * 9];
+    size_t i;
+
+    /* all four of the card, as by four insertions */
+    insert_card(4);
+    remember(before);
+    start(4, 4, 4);
+    CHECK(is_grid(insert_grid(card_grid, 16), TA_DONE, 4, TA_DONE));
+    check_untouched(before);
+    CHECK(words[TA_TOTAL] == 21);
+    CHECK(words[TA_FRONT] == 4);
+    CHECK(is_answer(audit(), TA_DONE, 1));
+
+    /* a stop at the very first trial is a finished call and leaves every word */
+    words[TA_FRONT] = 1;
+    remember(before);
+    CHECK(is_grid(insert_grid(card_grid, 16), TA_DONE, 0, TA_NUMBER_HELD));
+    CHECK(is_grid(insert_grid(wide + 4, 8), TA_DONE, 0, TA_BAD_COORDINATE));
+    CHECK(is_grid(insert_grid(card_grid, 0), TA_DONE, 0, TA_DONE));
+    /* row 17 first */
+    for (i = 1; i < 4; i++) {
+        CHECK(is_grid(insert_grid(card_grid, i), TA_BAD_LENGTH, 0, 0));
+        CHECK(is_grid(ta_insert_grid(words, 7, card_grid, 8 + i), TA_BAD_LENGTH, 0, 0));
+    }
+    CHECK(is_grid(ta_insert_grid(words, 7, card_grid, 0), TA_SLICE_SHORT, 0, 0));
+    check_untouched(before);
+    /* earlier ones stay, and the front is counted anew */
+    CHECK(is_grid(insert_grid(wide, 12), TA_DONE, 1, TA_BAD_COORDINATE));
+    CHECK(words[TA_COUNT] == 5);
+    CHECK(words[TA_TOTAL] == 64);
+    CHECK(words[TA_FRONT] == 1);
+    CHECK(is_answer(audit(), TA_DONE, 1));
+
+    /* up to the capacity */
+    start(4, 4, 4);
+    for (i = 0; i < 9; i++) {
+        many[4 * i] = 9 - i;
+        many[4 * i + 1] = many[4 * i + 2] = many[4 * i + 3] = 3;
+    }
+    CHECK(is_grid(ta_insert_grid(words, LENT, many, 36), TA_DONE, 8, TA_FULL));
+    check_guards();
+    CHECK(words[TA_COUNT] == 8);
+    CHECK(words[TA_FRONT] == 8);
+    CHECK(is_answer(audit(), TA_DONE, 1));
+}
+
 /* ---- what a replacement would change */
 
 static void replacements(void)
@@ -691,6 +761,7 @@ static void check_row(uint64_t row, size_t len)
     CHECK(is_answer(ta_reduce(words, len, 0, TA_TIE_LOWEST, log_words, LOG), row, 0));
     CHECK(is_answer(ta_joint(words, len, 1, 2), row, 0));
     CHECK(is_answer(ta_gain(words, len, 0, 0, 0), row, 0));
+    CHECK(is_grid(ta_insert_grid(words, len, log_words, 0), row, 0, 0));
     CHECK(is_change(ta_replace_effect(words, len, 1, 0, 0, 0), row, 0));
     CHECK(is_answer(ta_share(words, len), row, 0));
     CHECK(is_answer(ta_audit(words, len), row, 0));
@@ -910,6 +981,10 @@ HOLDS(least_is_three_words, sizeof(ta_least_answer) == 24);
 HOLDS(least_refusal_first, offsetof(ta_least_answer, refusal) == 0);
 HOLDS(least_number_second, offsetof(ta_least_answer, number) == 8);
 HOLDS(least_contribution_third, offsetof(ta_least_answer, contribution) == 16);
+HOLDS(grid_is_three_words, sizeof(ta_grid_answer) == 24);
+HOLDS(grid_refusal_first, offsetof(ta_grid_answer, refusal) == 0);
+HOLDS(grid_inserted_second, offsetof(ta_grid_answer, inserted) == 8);
+HOLDS(grid_stop_third, offsetof(ta_grid_answer, stop) == 16);
 HOLDS(change_is_two_words, sizeof(ta_change) == 16);
 HOLDS(change_refusal_first, offsetof(ta_change, refusal) == 0);
 HOLDS(change_difference_second, offsetof(ta_change, difference) == 8);
@@ -996,6 +1071,7 @@ int main(void)
     counts_9_to_11();
     ties_of_shares();
     random_shares();
+    grids();
     replacements();
     fronts();
     kept_from_before();

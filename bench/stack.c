@@ -20,12 +20,14 @@ static uint64_t log_words[2 * TA_MAX_CAPACITY];
 static uint8_t out[TA_REPORT_BYTES(TA_MAX_CAPACITY)];
 static uint8_t card[LINE * (TA_MAX_CAPACITY + 1)];
 
+static const uint64_t grid[] = {TA_MAX_NUMBER, 1, 2, 3};
 static const size_t len = sizeof words / sizeof words[0];
 static uint64_t answer;
 
 static void nothing(void) {}
 static void start(void) { answer = ta_start(words, len, 9, 9, 9, TA_MAX_CAPACITY); }
 static void insert(void) { answer = ta_insert(words, len, TA_MAX_NUMBER, 1, 2, 3); }
+static void insert_grid(void) { answer = ta_insert_grid(words, len, grid, 4).refusal; }
 static void remove_trial(void) { answer = ta_remove(words, len, TA_MAX_NUMBER); }
 static void least(void) { answer = ta_least(words, len, TA_TIE_LOWEST).refusal; }
 static void reduce(void) { answer = ta_reduce(words, len, 0, TA_TIE_LOWEST, log_words, 2 * TA_MAX_CAPACITY).refusal; }
@@ -92,13 +94,13 @@ static size_t touched_by(void (*call)(void))
 int main(void)
 {
     /* In such an order that every call is done: the card fills the archive, a
-       removal makes room, and the reduction comes last. */
+       removal makes room twice, and the reduction comes last. */
     static const struct { const char *name; void (*call)(void); } calls[] = {
         {"ta_start", start}, {"ta_card_check", card_check}, {"ta_card_load", card_load},
         {"ta_least", least}, {"ta_joint", joint}, {"ta_gain", gain},
         {"ta_replace_effect", replace_effect}, {"ta_share", share}, {"ta_audit", audit},
-        {"ta_report", report}, {"ta_remove", remove_trial}, {"ta_insert", insert},
-        {"ta_reduce", reduce},
+        {"ta_report", report}, {"ta_remove", remove_trial}, {"ta_insert_grid", insert_grid},
+        {"ta_remove", remove_trial}, {"ta_insert", insert}, {"ta_reduce", reduce},
     };
     size_t base;
     size_t i;

@@ -48,6 +48,7 @@ struct Case {
     Trial trial{};
     std::uint64_t keep = 0;
     Bytes card;
+    Words grid;
     // For those that recompute: the points to count, and their contributions.
     Point reference{};
     std::vector<Point> points;
@@ -212,6 +213,20 @@ public:
         Case c;
         c.card = card_of(all, room, reference);
         c.before.words.resize(full.size());
+        c.after.words = full;
+        c.after.value = all.size();
+        return c;
+    }
+
+    // All trials into an empty archive.
+    Case grid() const
+    {
+        Case c;
+        for (const Trial &t : all)
+            for (std::uint64_t word : {t.number, std::uint64_t{t.at[0]}, std::uint64_t{t.at[1]},
+                                       std::uint64_t{t.at[2]}})
+                c.grid.push_back(word);
+        c.before.words = fresh({}, room, reference);
         c.after.words = full;
         c.after.value = all.size();
         return c;

@@ -21,6 +21,7 @@ namespace
 struct Library {
     const char *name;
     decltype(&ta_insert) insert;
+    decltype(&ta_insert_grid) insert_grid;
     decltype(&ta_remove) remove;
     decltype(&ta_least) least;
     decltype(&ta_reduce) reduce;
@@ -29,10 +30,10 @@ struct Library {
     decltype(&ta_report) report;
 };
 
-const Library archive{"archive", ta_insert, ta_remove,    ta_least,
-                      ta_reduce, ta_audit,  ta_card_load, ta_report};
-const Library yardstick{"rust",    rs_insert, rs_remove,    rs_least,
-                        rs_reduce, rs_audit,  rs_card_load, rs_report};
+const Library archive{"archive", ta_insert, ta_insert_grid, ta_remove, ta_least,
+                      ta_reduce, ta_audit,  ta_card_load,   ta_report};
+const Library yardstick{"rust",    rs_insert, rs_insert_grid, rs_remove, rs_least,
+                        rs_reduce, rs_audit,  rs_card_load,   rs_report};
 
 // What is timed of them.
 using Task = void (*)(const Library &, State &, const Case &);
@@ -48,6 +49,24 @@ void insertion(const Library &l, State &s, const Case &c)
 {
     auto [x, y, z] = c.trial.at;
     s.refusal = l.insert(s.words.data(), s.words.size(), c.trial.number, x, y, z);
+}
+
+void grid(const Library &l, State &s, const Case &c)
+{
+    ta_grid_answer answer =
+        l.insert_grid(s.words.data(), s.words.size(), c.grid.data(), c.grid.size());
+    s.refusal = answer.refusal | answer.stop;
+    s.value = answer.inserted;
+}
+
+// The same trials by as many insertions.
+void one_by_one(const Library &l, State &s, const Case &c)
+{
+    for (std::size_t i = 0; i < c.grid.size(); i += 4) {
+        const std::uint64_t *t = &c.grid[i];
+        s.refusal |= l.insert(s.words.data(), s.words.size(), t[0], t[1], t[2], t[3]);
+        s.value++;
+    }
 }
 
 void removal(const Library &l, State &s, const Case &c)
@@ -326,6 +345,8 @@ const std::string all_contributions = "all contributions (audit)";
 const std::string one_insertion = "insertion";
 const std::string three_calls = "insertion, least, removal";
 const std::string one_removal = "removal";
+const std::string insertions = "insertions, one by one";
+const std::string one_grid = "grid";
 const std::string reducing = "reduce";
 
 // Coordinates that many points share.
@@ -365,6 +386,10 @@ public:
             for (Kind kind : kinds)
                 reductions(kind, from, keep);
         for (Kind kind : kinds)
+            plain(insertions, one_by_one, &Story::grid, kind, 1);
+        for (Kind kind : kinds)
+            plain(one_grid, grid, &Story::grid, kind, 1);
+        for (Kind kind : kinds)
             plain("card load", card_load, &Story::card, kind, 1);
         for (Kind kind : kinds)
             plain("report", report, &Story::report, kind, 8);
@@ -395,6 +420,8 @@ private:
                 compare(*library, exchange, "small exchange", {story.exchange()});
                 compare(*library, reduction, "small reduction",
                         {story.reduction(0), story.reduction(1)});
+                compare(*library, grid, "small grid", {story.grid()});
+                compare(*library, one_by_one, "small insertions", {story.grid()});
                 compare(*library, card_load, "small card", {story.card()});
                 compare(*library, report, "small report", {story.report()});
                 compare_no(*library, {story.audit()});
@@ -543,6 +570,12 @@ private:
                     ratios.push_back(r.archive.median() / r.rust.median());
             target(call + ", archive ÷ rust", ratios, true, bound);
         }
+        std::vector<double> grids;
+        for (const Row &r : rows)
+            for (const Row &q : rows)
+                if (r.call == one_grid && q.call == insertions && r.set == q.set)
+                    grids.push_back(r.archive.median() / q.archive.median());
+        target(one_grid + " ÷ " + insertions, grids, true, 0.35);
         auto against_peer = [this](const std::string &call, const std::string &trials,
                                    bool uniform) {
             std::vector<double> ratios;

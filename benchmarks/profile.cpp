@@ -1,10 +1,10 @@
 // Makes one call of the library again and again, for a profiler to look at.
 //
-//   profile CALL SET SECONDS      CALL: insert, remove, least, audit, reduce, card or report
+//   profile CALL SET SECONDS      CALL: insert, remove, least, audit, reduce, grid, card or report
 //                                 SET: cliff, spherical or uniform
 //
-// Prints the microseconds that a call took. The archives have 511 trials before an insertion and 512
-// before the other calls; each call has a fresh copy.
+// Prints the microseconds that a call took. The archives have 511 trials before an insertion, none
+// before a grid of 512 and 512 before the other calls; each call has a fresh copy.
 #include "cases.hpp"
 
 #include <chrono>
@@ -31,6 +31,8 @@ Case told(const std::string &call, const Story &story)
         return story.audit();
     if (call == "reduce")
         return story.reduction(1);
+    if (call == "grid")
+        return story.grid();
     if (call == "card")
         return story.card();
     if (call == "report")
@@ -54,6 +56,8 @@ std::uint64_t make(char call, State &s, const Case &c)
         return ta_audit(words, length).refusal;
     case 'd':
         return ta_reduce(words, length, c.keep, TA_TIE_LOWEST, s.log.data(), s.log.size()).refusal;
+    case 'g':
+        return ta_insert_grid(words, length, c.grid.data(), c.grid.size()).stop;
     case 'c':
         return ta_card_load(words, length, c.card.data(), c.card.size()).refusal;
     default:

@@ -8,6 +8,7 @@
 extern "C" {
 uint64_t rs_insert(uint64_t *words, size_t len, uint64_t number, uint64_t x, uint64_t y,
                    uint64_t z);
+ta_grid_answer rs_insert_grid(uint64_t *words, size_t len, const uint64_t *grid, size_t grid_len);
 uint64_t rs_remove(uint64_t *words, size_t len, uint64_t number);
 ta_least_answer rs_least(const uint64_t *words, size_t len, uint64_t rule);
 ta_answer rs_reduce(uint64_t *words, size_t len, uint64_t k, uint64_t rule, uint64_t *log,

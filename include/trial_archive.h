@@ -35,7 +35,8 @@
  *                   records are zero
  *   Words from 8 + 5 * capacity on are neither read nor written.
  *   Word 6 is counted anew, whatever it held, by each ta_start, ta_insert,
- *   ta_remove, ta_reduce and ta_card_load that is done. In archives kept from
+ *   ta_remove, ta_reduce and ta_card_load that is done, and by each
+ *   ta_insert_grid by which a trial goes in. In archives kept from
  *   before it was counted it is 0: where trials are held, ta_audit says no and
  *   ta_reduce is refused (13) until an insertion or a removal is done; all
  *   other calls are as ever.
@@ -179,8 +180,8 @@ extern "C" {
 
 /*
  * The refusals. Rows are checked in this order, save that ta_start checks 4
- * before 1, ta_replace_effect 9 before 6, and 18 comes right after 3. ta_start
- * and ta_card_load check neither 2 nor 3; for them row 1 is a slice shorter
+ * before 1, ta_replace_effect 9 before 6, 17 comes first, and 18 right after 3.
+ * ta_start and ta_card_load check neither 2 nor 3; for them row 1 is a slice shorter
  * than 8 + 5 * the capacity given.
  */
 enum {
@@ -222,6 +223,8 @@ enum {
     TA_CARD_FORM = 15,
     /* Report: output shorter than 53 * (count + 1) bytes. */
     TA_OUTPUT_SHORT = 16,
+    /* Insert-grid: slice length not a multiple of four. Checked first. */
+    TA_BAD_LENGTH = 17,
     /* Least, reduce: a tie rule that is neither 0 nor 1. Checked after row 3
        and before 11, 12, 13 and 14. */
     TA_BAD_RULE = 18
@@ -244,6 +247,14 @@ typedef struct ta_least_answer {
     uint64_t number;
     uint64_t contribution;
 } ta_least_answer;
+
+/* A refusal, or 0, how many trials of a grid went in, and the refusal number
+   that stopped it, or 0. */
+typedef struct ta_grid_answer {
+    uint64_t refusal;
+    uint64_t inserted;
+    uint64_t stop;
+} ta_grid_answer;
 
 /* A refusal, or 0 and a difference of two counts of cells. */
 typedef struct ta_change {
@@ -275,6 +286,18 @@ uint64_t ta_start(uint64_t *words, size_t len,
  */
 uint64_t ta_insert(uint64_t *words, size_t len, uint64_t number,
                    uint64_t x, uint64_t y, uint64_t z);
+
+/*
+ * Inserts a whole grid of trials, four words to a trial: number, x, y, z. The
+ * outcome is that of inserting them one by one by ta_insert and stopping at the
+ * first that rows 5 to 8 or 13 turn down; earlier ones stay. A stop, also at
+ * the very first trial, is a finished call: refusal 0, how many went in, and
+ * the row that stopped it, or 0 where all went in. A refused call inserts
+ * nothing. Grid and archive must not share memory. grid_len is in words.
+ * Refusals: 17, then 1 to 3, also for an empty grid.
+ */
+ta_grid_answer ta_insert_grid(uint64_t *words, size_t len,
+                              const uint64_t *grid, size_t grid_len);
 
 /*
  * Removes a trial. The total falls by its counted contribution, and every

@@ -13,6 +13,13 @@ pub struct Contribution {
     pub contribution: u64,
 }
 
+/// What a grid came to: how many of its trials went in, and what stopped it, if anything did.
+#[derive(Clone, Copy, Debug, PartialEq, Eq, Hash)]
+pub struct Filled {
+    pub inserted: u64,
+    pub stop: Option<Refusal>,
+}
+
 /// A trial held, with its kept contribution.
 #[derive(Clone, Copy, Debug, PartialEq, Eq, Hash)]
 pub struct Trial {
@@ -66,6 +73,12 @@ impl Archive {
     /// Inserts a trial.
     pub fn insert(&mut self, number: u64, point: [u32; 3]) -> Result<(), Refusal> {
         words::insert(&mut self.words, number, point)
+    }
+
+    /// Inserts a whole grid of trials, each a number and a point, one by one up to the first that is
+    /// turned down; earlier ones stay. Many times as fast as as many insertions.
+    pub fn insert_grid(&mut self, grid: &[[u64; 4]]) -> Result<Filled, Refusal> {
+        words::insert_grid(&mut self.words, grid)
     }
 
     /// Removes a trial; its number may be used again.

@@ -49,7 +49,7 @@ mod rule;
 pub mod sys;
 pub mod words;
 
-pub use archive::{Archive, Contribution, Trial};
+pub use archive::{Archive, Contribution, Filled, Trial};
 pub use refusal::{CardRefusal, Refusal};
 pub use rule::TieRule;
 

@@ -43,13 +43,15 @@ pub enum Refusal {
     CardForm = 15,
     /// Report: output shorter than 53 × (count + 1) bytes.
     OutputShort = 16,
+    /// Insert-grid: slice length not a multiple of four. Only the bare C interface can be given one.
+    BadLength = 17,
     /// Least, reduce: a tie rule that is neither 0 nor 1. Only the bare C interface can be given one.
     BadRule = 18,
 }
 
 impl Refusal {
     /// Every refusal, in the order of the table.
-    pub const ALL: [Refusal; 17] = [
+    pub const ALL: [Refusal; 18] = [
         Refusal::SliceShort,
         Refusal::BadHeader,
         Refusal::BadRecords,
@@ -66,6 +68,7 @@ impl Refusal {
         Refusal::NoneHeld,
         Refusal::CardForm,
         Refusal::OutputShort,
+        Refusal::BadLength,
         Refusal::BadRule,
     ];
 
@@ -107,6 +110,7 @@ impl fmt::Display for Refusal {
             Refusal::NoneHeld => "no trial held",
             Refusal::CardForm => "card line not of the form",
             Refusal::OutputShort => "output too short",
+            Refusal::BadLength => "length not a multiple of four",
             Refusal::BadRule => "tie rule neither 0 nor 1",
         })
     }

@@ -21,6 +21,15 @@ pub struct LeastAnswer {
     pub contribution: u64,
 }
 
+/// A refusal, or 0, how many trials of a grid went in, and the refusal number that stopped it, or 0.
+#[repr(C)]
+#[derive(Clone, Copy, Debug, PartialEq, Eq)]
+pub struct GridAnswer {
+    pub refusal: u64,
+    pub inserted: u64,
+    pub stop: u64,
+}
+
 /// A refusal, or 0 and a difference of two counts of cells.
 #[repr(C)]
 #[derive(Clone, Copy, Debug, PartialEq, Eq)]
@@ -42,6 +51,13 @@ extern "C" {
     pub fn ta_start(words: *mut u64, len: usize, rx: u64, ry: u64, rz: u64, capacity: u64) -> u64;
 
     pub fn ta_insert(words: *mut u64, len: usize, number: u64, x: u64, y: u64, z: u64) -> u64;
+
+    pub fn ta_insert_grid(
+        words: *mut u64,
+        len: usize,
+        grid: *const u64,
+        grid_len: usize,
+    ) -> GridAnswer;
 
     pub fn ta_remove(words: *mut u64, len: usize, number: u64) -> u64;
 

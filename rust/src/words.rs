@@ -5,7 +5,7 @@
 
 use crate::refusal::{CardRefusal, Refusal};
 use crate::sys;
-use crate::{Contribution, TieRule};
+use crate::{Contribution, Filled, TieRule};
 
 /// The words that an archive of this capacity takes: 8 + 5 × capacity.
 pub const fn needed(capacity: usize) -> usize {
@@ -35,6 +35,18 @@ pub fn insert(words: &mut [u64], number: u64, point: [u32; 3]) -> Result<(), Ref
     let [x, y, z] = point.map(u64::from);
     // SAFETY: pointer and length are those of one slice borrowed for the call.
     Refusal::check(unsafe { sys::ta_insert(words.as_mut_ptr(), words.len(), number, x, y, z) })
+}
+
+/// Inserts a whole grid of trials, each a number and a point, one by one up to the first that is
+/// turned down; earlier ones stay.
+pub fn insert_grid(words: &mut [u64], grid: &[[u64; 4]]) -> Result<Filled, Refusal> {
+    let grid = grid.as_flattened();
+    // SAFETY: pointers and lengths are those of two slices borrowed for the call, the first
+    // mutably, which therefore share no memory.
+    let answer =
+        unsafe { sys::ta_insert_grid(words.as_mut_ptr(), words.len(), grid.as_ptr(), grid.len()) };
+    Refusal::check(answer.refusal)?;
+    Ok(Filled { inserted: answer.inserted, stop: Refusal::check(answer.stop).err() })
 }
 
 /// Removes a trial.

@@ -28,6 +28,8 @@ fn card_words() -> Vec<u64> {
 fn calls() -> Vec<Call> {
     vec![
         Call::Insert { number: 5, point: [0, 0, 0] },
+        Call::InsertGrid { grid: vec![5, 0, 0, 0, 6, 1, 1, 1] },
+        Call::InsertGrid { grid: Vec::new() },
         Call::Remove { number: 4 },
         Call::Least { rule: 0 },
         Call::Reduce { k: 2, rule: 0, log: vec![91, 92, 93, 94, 95] },

@@ -1,4 +1,4 @@
-//! Long lists of insertions, removals and reductions from a start, refused ones and parts of the
+//! Long lists of insertions, grids, removals and reductions from a start, refused ones and parts of the
 //! words included, against the trial book of document 01.
 
 use crate::lend::{self, narrow};
@@ -91,6 +91,27 @@ impl History {
         }
     }
 
+    /// A grid: the book enters its trials one by one, up to the first that it refuses.
+    fn insert_grid(&mut self, rng: &mut Rng) {
+        let mut grid = Vec::new();
+        for _ in 0..rng.within(0..=5) {
+            let [x, y, z] = self.shape.point(rng, &self.held());
+            grid.push([self.number(rng, 10), x, y, z]);
+        }
+        let lent = self.lent(rng);
+        let answer = words::insert_grid(&mut self.words[..lent], &grid);
+        if lent < self.needed {
+            assert_eq!(answer, Err(Refusal::SliceShort), "insert {grid:?}");
+            return;
+        }
+        let filled = answer.expect("only a stop");
+        let rows = grid.iter().map(|&[number, x, y, z]| self.book.insert(lent, number, [x, y, z]));
+        let refused = rows.enumerate().find(|&(_, row)| row != 0);
+        let (inserted, stop) = refused.unwrap_or((grid.len(), 0));
+        assert_eq!(filled.inserted, inserted as u64, "insert {grid:?}");
+        assert_eq!(filled.stop.map_or(0, Refusal::number), stop, "insert {grid:?}");
+    }
+
     fn remove(&mut self, rng: &mut Rng) {
         let number = self.number(rng, 80);
         let lent = self.lent(rng);
@@ -163,6 +184,7 @@ fn history(rng: &mut Rng, size: Size, calls: u64, every: u64) -> u64 {
             inserts = rng.pick(&[20, 50, 80, 95]);
         }
         match rng.within(1..=100) {
+            n if n <= inserts && rng.chance(8) => history.insert_grid(rng),
             n if n <= inserts => history.insert(rng),
             n if n <= 97 => history.remove(rng),
             _ => history.reduce(rng),

@@ -1,7 +1,8 @@
 //! One call, made three times on equal memory: by the reference, by the bare C interface on
 //! fenced memory, and by the safe functions. Answers and all lent memory must agree, that which
-//! is only read included. The safe functions take coordinates of 32 bits and one of the two tie
-//! rules; a call with wider ones or another rule is made two ways.
+//! is only read included. The safe functions take coordinates of 32 bits, one of the two tie rules
+//! and grids of whole trials; a call with wider ones, another rule or another length is made two
+//! ways.
 
 use crate::reference::{calls, cards, Point};
 use std::collections::BTreeMap;
@@ -11,6 +12,7 @@ use trial_archive::{check_card, sys, words, CardRefusal, Refusal, TieRule};
 pub enum Call {
     Start { reference: Point, capacity: u64 },
     Insert { number: u64, point: Point },
+    InsertGrid { grid: Vec<u64> },
     Remove { number: u64 },
     Least { rule: u64 },
     Reduce { k: u64, rule: u64, log: Vec<u64> },
@@ -29,6 +31,7 @@ impl Call {
         match self {
             Call::Start { .. } => "start",
             Call::Insert { .. } => "insert",
+            Call::InsertGrid { .. } => "insert_grid",
             Call::Remove { .. } => "remove",
             Call::Least { .. } => "least",
             Call::Reduce { .. } => "reduce",
@@ -60,6 +63,7 @@ impl Call {
         let past = |p: &[u64]| (0..3).any(|axis| p[axis] > words[2 + axis]);
         match self {
             Call::Start { .. } | Call::Check { .. } | Call::Load { .. } => false,
+            Call::InsertGrid { grid } => grid.chunks_exact(4).any(|t| past(&t[1..])),
             Call::Insert { point, .. }
             | Call::Gain { point }
             | Call::ReplaceEffect { point, .. } => past(point),
@@ -77,8 +81,27 @@ impl Call {
 
     /// Whether one of its coordinates has more than 32 bits.
     fn is_wide(&self) -> bool {
-        self.point().is_some_and(|point| narrow(point).is_none())
+        match self {
+            Call::InsertGrid { grid } => {
+                grid.chunks(4).flat_map(|t| t.iter().skip(1)).any(|&c| c > u64::from(u32::MAX))
+            }
+            _ => self.point().is_some_and(|point| narrow(point).is_none()),
+        }
     }
+
+    /// Whether only the C interface can be asked it.
+    fn is_bare(&self) -> bool {
+        match self {
+            Call::InsertGrid { grid } => fours(grid).is_none(),
+            _ => self.is_wide() || self.rule() > 1,
+        }
+    }
+}
+
+/// The grid as trials of four words each, where its length is a multiple of four.
+fn fours(grid: &[u64]) -> Option<&[[u64; 4]]> {
+    let (fours, rest) = grid.as_chunks();
+    rest.is_empty().then_some(fours)
 }
 
 /// The point in 32 bits, as far as it fits.
@@ -140,7 +163,7 @@ type Way = fn(&Call, &[u64]) -> Outcome;
 pub fn compare(call: &Call, lent: &[u64]) -> Outcome {
     let expected = by_reference(call, lent);
     let ways: [(&str, Way); 2] = [("C interface", by_c), ("safe functions", by_safe)];
-    for (way, run) in &ways[..if call.is_wide() || call.rule() > 1 { 1 } else { 2 }] {
+    for (way, run) in &ways[..if call.is_bare() { 1 } else { 2 }] {
         let found = run(call, lent);
         assert!(
             found == expected,
@@ -208,10 +231,11 @@ impl Tally {
     }
 }
 
-/// What is lent beside the words: the log, the output and the card.
+/// What is lent beside the words: the log or the grid, the output and the card.
 fn lists(call: &Call) -> (Vec<u64>, Vec<u8>, Vec<u8>) {
     match call {
         Call::Reduce { log, .. } => (log.clone(), Vec::new(), Vec::new()),
+        Call::InsertGrid { grid } => (grid.clone(), Vec::new(), Vec::new()),
         Call::Report { out } => (Vec::new(), out.clone(), Vec::new()),
         Call::Check { card } | Call::Load { card } => (Vec::new(), Vec::new(), card.clone()),
         _ => (Vec::new(), Vec::new(), Vec::new()),
@@ -226,6 +250,10 @@ fn by_reference(call: &Call, lent: &[u64]) -> Outcome {
             single(calls::start(&mut words, *reference, *capacity))
         }
         Call::Insert { number, point } => single(calls::insert(&mut words, *number, *point)),
+        Call::InsertGrid { grid } => match calls::insert_grid(&mut words, grid) {
+            Ok((inserted, stop)) => vec![0, inserted, stop],
+            Err(refusal) => vec![refusal, 0, 0],
+        },
         Call::Remove { number } => single(calls::remove(&mut words, *number)),
         Call::Least { rule } => match calls::least(&words, *rule) {
             Ok((number, contribution)) => vec![0, number, contribution],
@@ -319,6 +347,10 @@ fn by_c(call: &Call, lent: &[u64]) -> Outcome {
             Call::Insert { number, point: [x, y, z] } => {
                 vec![sys::ta_insert(words.mut_ptr(), len, *number, *x, *y, *z)]
             }
+            Call::InsertGrid { .. } => {
+                let answer = sys::ta_insert_grid(words.mut_ptr(), len, log.ptr(), log.len());
+                vec![answer.refusal, answer.inserted, answer.stop]
+            }
             Call::Remove { number } => vec![sys::ta_remove(words.mut_ptr(), len, *number)],
             Call::Least { rule } => {
                 let answer = sys::ta_least(words.ptr(), len, *rule);
@@ -366,6 +398,12 @@ fn by_safe(call: &Call, lent: &[u64]) -> Outcome {
             single(numbered(words::start(&mut memory, point, *capacity)))
         }
         Call::Insert { number, .. } => single(numbered(words::insert(&mut memory, *number, point))),
+        Call::InsertGrid { grid } => {
+            match words::insert_grid(&mut memory, fours(grid).expect("whole trials")) {
+                Ok(filled) => vec![0, filled.inserted, filled.stop.map_or(0, Refusal::number)],
+                Err(refusal) => vec![refusal.number(), 0, 0],
+            }
+        }
         Call::Remove { number } => single(numbered(words::remove(&mut memory, *number))),
         Call::Least { .. } => match words::least(&memory, rule) {
             Ok(least) => vec![0, least.number, least.contribution],

@@ -7,6 +7,7 @@ mod counting;
 mod counts;
 mod examples;
 mod fronts;
+mod grids;
 mod histories;
 mod lend;
 mod random_calls;

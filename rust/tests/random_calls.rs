@@ -55,6 +55,7 @@ fn run(percent: u64, size: Size) {
     }
     tally.covers("start", &[0, 1, 4]);
     tally.covers("insert", &[0, 1, 2, 3, 5, 6, 7, 8, 13]);
+    tally.covers("insert_grid", &[0, 1, 2, 3, 17]);
     tally.covers("remove", &[0, 1, 2, 3, 9, 13]);
     tally.covers("least", &[0, 1, 2, 3, 14, 18]);
     tally.covers("reduce", &[0, 1, 2, 3, 11, 12, 13, 18]);
@@ -64,11 +65,12 @@ fn run(percent: u64, size: Size) {
     tally.covers("share", &[0, 1, 2, 3]);
     tally.covers("audit", &[0, 1, 2, 3]);
     tally.covers("report", &[0, 1, 2, 3, 16]);
-    for call in ["start", "insert", "gain", "replace_effect"] {
+    for call in ["start", "insert", "insert_grid", "gain", "replace_effect"] {
         tally.covers_wide(call);
     }
     let all = [
         "insert",
+        "insert_grid",
         "remove",
         "least",
         "reduce",

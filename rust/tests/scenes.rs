@@ -277,7 +277,7 @@ pub fn part(rng: &mut Rng, words: &[u64], needed: usize) -> usize {
 pub fn call(rng: &mut Rng, shape: &Shape, words: &[u64]) -> Call {
     let archive =
         calls::read(words).unwrap_or_else(|_| Archive::empty(shape.reference, shape.capacity));
-    match rng.within(0..=26) {
+    match rng.within(0..=29) {
         0..=6 => Call::Insert {
             number: number(rng, shape, &archive, 25),
             point: point(rng, shape, &archive),
@@ -295,8 +295,33 @@ pub fn call(rng: &mut Rng, shape: &Shape, words: &[u64]) -> Call {
         21 => Call::Audit,
         22 => start(rng, shape),
         23 | 24 => report(rng, &archive),
+        25..=27 => insert_grid(rng, shape, &archive),
         _ => replace_effect(rng, shape, &archive),
     }
+}
+
+/// A grid of up to a few trials more than there is room for, now and then with some words more.
+fn insert_grid(rng: &mut Rng, shape: &Shape, archive: &Archive) -> Call {
+    let free = archive.capacity - archive.count();
+    let most = match shape.size {
+        Size::Full | Size::Large => free.min(6),
+        _ => free + 2,
+    };
+    let trials = rng.within(0..=most);
+    let held = rng.pick(&[0, 0, 0, 10]);
+    let mut grid = Vec::new();
+    for _ in 0..trials {
+        grid.push(number(rng, shape, archive, held));
+        grid.extend(if rng.chance(80) {
+            shape.point(rng, &archive.points())
+        } else {
+            point(rng, shape, archive)
+        });
+    }
+    if rng.chance(8) {
+        grid.extend((0..rng.within(1..=3)).map(|_| 1));
+    }
+    Call::InsertGrid { grid }
 }
 
 /// A trial that is mostly held, and a point: any, or the trial's own.

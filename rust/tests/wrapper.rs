@@ -96,14 +96,13 @@ fn tie_rules() {
 #[test]
 fn refusals_have_their_numbers() {
     let numbers: Vec<u64> = Refusal::ALL.iter().map(|r| r.number()).collect();
-    assert_eq!(numbers, (1..=16).chain([18]).collect::<Vec<u64>>());
+    assert_eq!(numbers, (1..=18).collect::<Vec<u64>>());
     for refusal in Refusal::ALL {
         assert_eq!(Refusal::from_number(refusal.number()), Some(refusal));
     }
     assert_eq!(Refusal::from_number(0), None);
-    assert_eq!(Refusal::from_number(17), None);
     let mut texts: Vec<String> = Refusal::ALL.iter().map(Refusal::to_string).collect();
     texts.sort();
     texts.dedup();
-    assert_eq!(texts.len(), 17);
+    assert_eq!(texts.len(), 18);
 }

@@ -13,7 +13,7 @@ ghost use Rattle.hypervolume.specs.Sorted.{Small};
 ghost use Rattle.words.specs.Layout.{read, word};
 ghost use Rattle.words.specs.Format.{archive-rows};
 ghost use Rattle.calls.specs.Calls.{held-points};
-ghost use Rattle.ask.specs.RecordCounts.{CountedAll, CountedJoints};
+ghost use Rattle.ask.specs.RecordCounts.{CountedAll, Room, CountedJoints};
 
 // The total of all records, whose points these are, and in `out` the contribution of each.
 pub fn count_all(w: &[u64], points: &[[u32; 3]], out: &mut [u64]) -> u64
@@ -25,7 +25,34 @@ pub fn count_all(w: &[u64], points: &[[u32; 3]], out: &mut [u64]) -> u64
 }
 
 // The gain of p over the records but the one at place `skip` (over all where skip is the count), and its joint count
-// with each of them: `counts` has those at `places`, all others are 0.
+// with each of them: `counts` has those at `places`, all others are 0. Counted in lent arrays, for those who count again and
+// again; of the others it does not matter what they hold.
+pub fn count_joints_in(
+    w: &[u64],
+    skip: usize,
+    p: Point,
+    points: &mut [[u32; 3]],
+    corners: &mut [[u32; 3]],
+    places: &mut [u16],
+    line: &mut [u64],
+    counts: &mut [u64],
+) -> Updated
+    requires { ⌜ (archive-rows (now w) 0 ≡ 0) × (skip ≤ word (now w) 0) × Small (p .at) × Room (now points) (now corners) (now places) (now line) (now counts) ⌝ }
+    ensures { λ r. ⌜ CountedJoints (now (w .entry)) skip (p .at) (now (places .exit)) (now (counts .exit)) r ⌝ }
+{
+    let m = load_points(w, skip, points);
+    update(
+        &points[..m],
+        p,
+        reference_of(w),
+        corners,
+        places,
+        line,
+        counts,
+    )
+}
+
+// The same in arrays of its own.
 pub fn count_joints(
     w: &[u64],
     skip: usize,
@@ -39,11 +66,11 @@ pub fn count_joints(
     let mut points = [[0u32, 0, 0]; 512];
     let mut corners = [[0u32, 0, 0]; 512];
     let mut line = [0u64; 512];
-    let m = load_points(w, skip, &mut points);
-    update(
-        &points[..m],
+    count_joints_in(
+        w,
+        skip,
         p,
-        reference_of(w),
+        &mut points,
         &mut corners,
         places,
         &mut line,

@@ -3,6 +3,7 @@ mod counts;
 mod questions;
 
 pub use counts::count_joints;
+pub use counts::count_joints_in;
 pub use questions::audit;
 pub use questions::audited;
 pub use questions::gain;

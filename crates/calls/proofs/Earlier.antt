@@ -1,11 +1,13 @@
 -- Archives kept from before W-209: the audit says no, and yes after an insertion or a removal.
-use Prim.Native.Nat.{ℕ, _*_, _-_, _≤_}
+use Prim.Native.Nat.{ℕ, _+_, _*_, _-_, _≤_}
 use mathlib.Core.Path.{_≡_, refl, sym, ap, _∙_}
 use mathlib.Core.Bool.{Bool, true, false}
 use mathlib.Core.List.{List, _∷_, _++_, List·Memᴰ, Memᴰ·of-map, []}
 use native.Mathlib.Omega.{arith}
+use lib.Dec.{ltb}
 use lib.ListN.{length}
 use borrow.Author.Tests.{le-ltb}
+use Rattle.slices.specs.Choices.{either}
 use Rattle.hypervolume.specs.Cells.{holds}
 use Rattle.hypervolume.specs.Front.{front, unbeaten}
 use Rattle.hypervolume.proofs.Front.{front-laws}
@@ -14,7 +16,7 @@ use Rattle.words.specs.Layout.{layout, read, word, behind}
 use Rattle.words.specs.Format.{guard, archive-rows}
 use Rattle.words.proofs.Reading.{read-layout}
 use Rattle.words.proofs.Passed.{Sound, sound-passes}
-use Rattle.calls.specs.Calls.{held-points, renewed, insert-gain, joint-with, lowered, inserted, without, removal-loss, raised, removed, audited, rule-allowed, reduce-rows}
+use Rattle.calls.specs.Calls.{held-points, box-of, renewed, insert-gain, joint-with, lowered, inserted, falls-below, insert-overruns, admission-rows, insert-rows, without, removal-loss, raised, removed, audited, rule-allowed, reduce-rows}
 use Rattle.calls.specs.Counted.{IsCounted}
 use Rattle.calls.specs.Lent.{answer, insert, remove, reduce, audit}
 use Rattle.calls.specs.Earlier.{KeptFromBefore, EarlierArchives}
@@ -36,9 +38,19 @@ front-held (r ∷ rows) l =
     three q w = ap length (sym (w .2))
 
 -- Insertion and removal do not look at the front.
-inserted-front : (a : Archive) (t : Trial) → inserted (renewed (a .shape) (a .sum) (a .rows)) t ≡ inserted a t
+pub inserted-front : (a : Archive) (k : ℕ) (t : Trial) → inserted (record { shape = a .shape; sum = a .sum; front = k; rows = a .rows }) t ≡ inserted a t
 unfolding inserted insert-gain lowered joint-with
-inserted-front a t = refl
+inserted-front a k t = refl
+
+falls-below-front : (a : Archive) (k : ℕ) (t : Trial) (rows : List Row) → falls-below (record { shape = a .shape; sum = a .sum; front = k; rows = a .rows }) t rows ≡ falls-below a t rows
+unfolding falls-below joint-with
+falls-below-front a k t [] = refl
+falls-below-front a k t (r ∷ rows) = ap (either (ltb (r .kept) (joint-with a t r))) (falls-below-front a k t rows)
+
+pub insert-rows-front : (a : Archive) (k : ℕ) (t : Trial) → insert-rows (record { shape = a .shape; sum = a .sum; front = k; rows = a .rows }) t ≡ insert-rows a t
+unfolding insert-rows admission-rows insert-overruns insert-gain
+insert-rows-front a k t =
+    ap (λ b. admission-rows a t (guard (either (ltb (box-of a) (a .sum + insert-gain a t)) b) 13 0)) (falls-below-front a k t (a .rows))
 
 removed-front : (a : Archive) (n : ℕ) → removed (renewed (a .shape) (a .sum) (a .rows)) n ≡ removed a n
 unfolding removed removal-loss insert-gain without raised joint-with
@@ -81,7 +93,7 @@ module _ (w : List ℕ) (h : KeptFromBefore w) where
   after-insertion t e =
       let done = insert-done w t e in
       says-yes (insert w t .words) (inserted (read w) t) (done .words)
-      (inserted-sound (read w) t (known w (h .passes) .sound) (insert-passed (read w) t (done .rows))) (rw (← inserted-front (read w) t) (inserted-counted (renewed (read w .shape) (read w .sum) (read w .rows)) t (h .counted)))
+      (inserted-sound (read w) t (known w (h .passes) .sound) (insert-passed (read w) t (done .rows))) (rw (← inserted-front (read w) (front (held-points (read w))) t) (inserted-counted (renewed (read w .shape) (read w .sum) (read w .rows)) t (h .counted)))
 
   after-removal : (n : ℕ) → remove w n .refusal ≡ 0 → audit (remove w n .words) ≡ record { refusal = 0; value = 1 }
   after-removal n e =

@@ -15,3 +15,4 @@ pub mod Shares
 pub mod Earlier
 pub mod Fewest
 pub mod Replacement
+pub mod Grid

@@ -1,9 +1,10 @@
 -- Archives that pass rows 2 and 3 still do after a call that is done: insertion, removal, the drops of a reduction.
 use Prim.Native.Nat.{ℕ, suc, _+_, _≤_}
-use mathlib.Core.Path.{_≡_, refl}
+use mathlib.Core.Path.{_≡_, refl, sym, ap, _∙_}
 use mathlib.Core.Bool.{true, false}
 use mathlib.Core.Logic.{_⊎_, inl, inr}
 use mathlib.Core.List.{List, map, List·Memᴰ, List·Memᴰ·cases-cons, Memᴰ·of-map, []}
+use native.Mathlib.Numerals.{add-one}
 use native.Mathlib.Omega.{arith}
 use lib.ListN.{length, length-map}
 use borrow.Author.Tests.{eqb-false, ltb-false, not-false, le-leb}
@@ -116,6 +117,13 @@ empty-sound s h =
       in-order = refl;
       apart = refl;
     }
+
+pub inserted-count : (a : Archive) (t : Trial) → length (inserted a t .rows) ≡ length (a .rows) + 1
+unfolding inserted
+inserted-count a t =
+    place-length _ _ (map (lowered a t) (a .rows))
+    ∙ ap suc (length-map (a .rows) (lowered a t))
+    ∙ sym (add-one (length (a .rows)))
 
 pub inserted-sound : (a : Archive) (t : Trial) → Sound a → InsertPassed a t → Sound (inserted a t)
 unfolding inserted insert-overruns insert-gain lowered

@@ -8,3 +8,4 @@ pub mod Drops
 pub mod Earlier
 pub mod Fewest
 pub mod Replacement
+pub mod Grid

@@ -43,6 +43,27 @@ impl LeastAnswer {
     }
 }
 
+// The answer of a grid of trials: the refusal (0 when done), how many went in, and the refusal number that stopped it, or 0.
+// Zeros in a refusal.
+#[repr(C)]
+pub struct GridAnswer {
+    pub refusal: u64,
+    pub inserted: u64,
+    pub stop: u64,
+}
+
+impl GridAnswer {
+    pub fn refused(refusal: u64) -> GridAnswer
+        ensures { λ r. ⌜ r ≡ record { refusal = refusal; inserted = 0; stop = 0 } ⌝ }
+    {
+        GridAnswer {
+            refusal,
+            inserted: 0,
+            stop: 0,
+        }
+    }
+}
+
 // The answer of what a replacement would change: the refusal (0 when done), and the difference (0 in a refusal).
 #[repr(C)]
 pub struct Change {

@@ -1,11 +1,10 @@
 -- Loading comes to the verdict on the card's lines.
 use Prim.Native.Nat.{ℕ, zero, suc, _+_}
-use mathlib.Core.Path.{_≡_, refl, sym, ap, _∙_}
+use mathlib.Core.Path.{_≡_, refl, _∙_}
 use mathlib.Core.Bool.{true}
-use mathlib.Core.List.{List, _∷_, _++_, map, []}
+use mathlib.Core.List.{List, _∷_, _++_, []}
 use mathlib.Core.Option.{Option, none, some}
-use native.Mathlib.Numerals.{add-one}
-use lib.ListN.{length, drop, length-map}
+use lib.ListN.{length, drop}
 use borrow.Author.Tests.{not-false}
 use Rattle.text.specs.Lines.{Numbers}
 use Rattle.words.specs.Archive.{Trial, Shape, Archive, trials}
@@ -13,12 +12,11 @@ use Rattle.words.specs.Layout.{extent, layout}
 use Rattle.words.specs.Format.{guard, shape-allowed, rows-allowed, ordered, distinct}
 use Rattle.words.proofs.Reading.{read-layout, behind-layout}
 use Rattle.words.proofs.Passed.{guard-none, Sound, sound-passes}
-use Rattle.calls.specs.Calls.{empty, inserted, insert-rows, admission-rows, lowered}
+use Rattle.calls.specs.Calls.{empty, inserted, insert-rows, admission-rows}
 use Rattle.calls.specs.Counted.{IsCounted}
 use Rattle.calls.specs.Lent.{leaves, start-rows, start, insert}
-use Rattle.calls.proofs.Members.{place-length}
 use Rattle.calls.proofs.Counted.{insert-fits, inserted-counted, empty-counted, counted-is-counted}
-use Rattle.calls.proofs.Sound.{insert-passed, empty-sound, inserted-sound}
+use Rattle.calls.proofs.Sound.{insert-passed, empty-sound, inserted-count, inserted-sound}
 use Rattle.card.specs.Card.{shape-on, trial-on, malformed, by-form, first-line, further-line, refused, accepted, judged, further, from-first, lines, load}
 use Rattle.card.specs.Verdict.{refusal, in-turn, judge-further, judge, answer-of, words-of, carried-out}
 
@@ -28,7 +26,7 @@ pub record Fair (a : Archive) : Type 0 where
   pub counted : IsCounted a
 
 -- Row 13 is never given here, and rows 1 to 3 are passed.
-insert-rows-fair : (a : Archive) (t : Trial) → IsCounted a → insert-rows a t ≡ admission-rows a t 0
+pub insert-rows-fair : (a : Archive) (t : Trial) → IsCounted a → insert-rows a t ≡ admission-rows a t 0
 unfolding insert-rows guard
 insert-rows-fair a t c = rw (insert-fits a t c)
 
@@ -44,13 +42,6 @@ inserted-fair a t f e =
       sound = inserted-sound a t (f .sound) (insert-passed a t (insert-rows-fair a t (f .counted) ∙ e));
       counted = inserted-counted a t (f .counted);
     }
-
-pub inserted-count : (a : Archive) (t : Trial) → length (inserted a t .rows) ≡ length (a .rows) + 1
-unfolding inserted
-inserted-count a t =
-    place-length _ _ (map (lowered a t) (a .rows))
-    ∙ ap suc (length-map (a .rows) (lowered a t))
-    ∙ sym (add-one (length (a .rows)))
 
 -- The slice while a card is loaded: the archive so far, and the words behind.
 abbrev so-far : List ℕ → Archive → List ℕ

@@ -19,7 +19,8 @@ use Rattle.card.specs.declared.Loaded.{Loaded}
 use Rattle.card.specs.Card.{shape-on, trial-on}
 use Rattle.card.specs.Verdict.{Verdict, refusal, archive, in-turn, judge-further, judge, answer-of}
 use Rattle.card.specs.Theorems.{TurnedDown, form, shape, slice, number, coordinate, held, full}
-use Rattle.card.proofs.Judging.{Fair, inserted-fair, inserted-count, empty-fair, shape-passed}
+use Rattle.calls.proofs.Sound.{inserted-count}
+use Rattle.card.proofs.Judging.{Fair, inserted-fair, empty-fair, shape-passed}
 
 -- A verdict as it can be.
 pub data Possible : Verdict → Type 0 where
@@ -27,7 +28,7 @@ pub data Possible : Verdict → Type 0 where
   accepted : {a : Archive} → Fair a → Possible (archive a)
 
 -- How many trials an archive holds on the way.
-few : (a : Archive) → Fair a → length (a .rows) ≤ 512
+pub few : (a : Archive) → Fair a → length (a .rows) ≤ 512
 few a f =
     let most : a .shape .capacity ≤ 512 = shape-bounds (a .shape) (f .sound .shaped) .capacity-high in
     let within : length (a .rows) ≤ a .shape .capacity = f .sound .held-within in

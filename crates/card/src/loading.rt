@@ -4,14 +4,19 @@ use crate::lines::Due;
 use crate::lines::read_line;
 use crate::verdict::judge;
 use crate::verdict::refused;
-use insertion::insert;
+use insertion::enter;
 use insertion::start;
+use records::renew;
 use text::Line;
+use words::Row;
 ghost use mathlib.Core.Path.{_≡_};
 ghost use lib.ListN.{length};
 ghost use Rattle.text.specs.Lines.{numbers-of};
-ghost use Rattle.card.specs.Card.{first-line, further-line, load, ReadInto};
+ghost use Rattle.words.specs.Format.{archive-rows};
+ghost use Rattle.ask.specs.RecordCounts.{Room};
+ghost use Rattle.card.specs.Card.{first-line, load, ReadInto};
 ghost use Rattle.card.specs.Check.{check};
+ghost use Rattle.card.specs.Reading.{EntersLine};
 
 // Line 1: the start of the archive. Answers 15, 4, 1 or 0.
 fn first_line(w: &mut [u64], l: Line) -> u64
@@ -29,9 +34,18 @@ fn first_line(w: &mut [u64], l: Line) -> u64
     start(w, second, third, fourth, first)
 }
 
-// A further line: an insertion. Answers 15, 5 to 8 or 0.
-fn further_line(w: &mut [u64], l: Line) -> u64
-    ensures { λ r. ⌜ (r ≡ further-line (now (w .entry)) (numbers-of l) .refusal) × (now (w .exit) ≡ further-line (now (w .entry)) (numbers-of l) .words) ⌝ }
+// A further line: its trial entered, with the front as it was. Answers 15, 5 to 8 or 0.
+fn further_line(
+    w: &mut [u64],
+    l: Line,
+    points: &mut [[u32; 3]],
+    corners: &mut [[u32; 3]],
+    places: &mut [u16],
+    column: &mut [u64],
+    counts: &mut [u64],
+) -> u64
+    requires { ⌜ (archive-rows (now w) 0 ≡ 0) × Room (now points) (now corners) (now places) (now column) (now counts) ⌝ }
+    ensures { λ r. ⌜ EntersLine (now (w .entry)) (numbers-of l) r (now (w .exit)) ⌝ }
 {
     let Line::Values {
         first,
@@ -42,10 +56,17 @@ fn further_line(w: &mut [u64], l: Line) -> u64
     else {
         return 15;
     };
-    insert(w, first, second, third, fourth)
+    let row = Row {
+        number: first,
+        x: second,
+        y: third,
+        z: fourth,
+        kept: 0,
+    };
+    enter(w, row, points, corners, places, column, counts)
 }
 
-// Loads the card into these words, line by line, and stops at the first line refused.
+// Loads the card into these words, line by line, and stops at the first line refused. The front is counted behind the last.
 pub fn read_card(w: &mut [u64], card: &[u8]) -> Loaded
     ensures { λ r. ⌜ ReadInto (load (now (w .entry)) (now (card .entry))) r (now (w .exit)) ⌝ }
 {
@@ -56,14 +77,28 @@ pub fn read_card(w: &mut [u64], card: &[u8]) -> Loaded
     if started != 0 {
         return refused(started, 1);
     }
+    let mut points = [[0u32, 0, 0]; 512];
+    let mut corners = [[0u32, 0, 0]; 512];
+    let mut places = [0u16; 512];
+    let mut column = [0u64; 512];
+    let mut counts = [0u64; 512];
     let mut line: usize = 2;
     while let Due::Next(l) = read_line(card, line) {
-        let entered = further_line(w, l);
+        let entered = further_line(
+            w,
+            l,
+            &mut points,
+            &mut corners,
+            &mut places,
+            &mut column,
+            &mut counts,
+        );
         if entered != 0 {
             return refused(entered, line as u64);
         }
         line += 1;
     }
+    renew(w);
     Loaded {
         refusal: 0,
         line: 0,

@@ -2,6 +2,7 @@
 mod inserting;
 mod starting;
 
+pub use inserting::enter;
 pub use inserting::insert;
 pub use starting::start;
 pub use starting::start_row;

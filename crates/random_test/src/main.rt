@@ -194,7 +194,16 @@ fn inserts(w: &mut [u64], number: u64, p: Point) -> bool {
     insertion::insert(w, number, at[0] as u64, at[1] as u64, at[2] as u64) == 0
 }
 
-// One call on both: an insertion, a removal of the held, or a reduction by one.
+// The same by a grid that has the trial twice, so that its number stops it the second time.
+fn fills(w: &mut [u64], number: u64, p: Point) -> bool {
+    let x = p.at[0] as u64;
+    let y = p.at[1] as u64;
+    let z = p.at[2] as u64;
+    let a = grid::insert_grid(w, &[number, x, y, z, number, x, y, z]);
+    a.refusal == 0 && a.inserted == 1 && a.stop == 7
+}
+
+// One call on both: an insertion, alone or by a grid, a removal of the held, or a reduction by one.
 fn step(book: &mut [u32], reference: Point, w: &mut [u64], set: u64, i: u64) -> bool {
     let chosen = noise(set, 3, i);
     let n = (1 + chosen % 8) as usize;
@@ -207,6 +216,9 @@ fn step(book: &mut [u32], reference: Point, w: &mut [u64], set: u64, i: u64) -> 
     }
     let p = somewhere(reference, set, i);
     enter(book, n, p);
+    if chosen / 64 % 2 == 0 {
+        return fills(w, n as u64, p);
+    }
     inserts(w, n as u64, p)
 }
 

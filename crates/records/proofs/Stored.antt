@@ -17,7 +17,7 @@ use Rattle.words.proofs.Reading.{length-records, read-records, read-layout, beh
 use Rattle.words.proofs.Passed.{Passed, Sound, passed, sound-passes}
 use Rattle.calls.specs.Calls.{held-points, renewed}
 use Rattle.calls.proofs.Known.{count-rows}
-use Rattle.records.specs.Fronts.{fronted, unfronted}
+use Rattle.records.specs.Fronts.{fronted}
 
 -- Records put from word 8 on are read again.
 pub rows-put : (w : List ℕ) (rows : List Row) (rest : List ℕ) (n : ℕ) → 8 + length (records rows ++ rest) ≤ length w → length rows ≡ n
@@ -38,10 +38,15 @@ layout-laid a b =
     append-assoc (header a) (records (a .rows) ++ replicate (5 * (a .shape .capacity - length (a .rows))) 0) b
     ∙ ap (λ l. header a ++ l) (append-assoc (records (a .rows)) (replicate (5 * (a .shape .capacity - length (a .rows))) 0) b)
 
--- The header with another count, another total and another front.
-header-set : (a c : Archive) (n s k : ℕ) (tail : List ℕ) → c .shape ≡ a .shape → length (c .rows) ≡ n → c .sum ≡ s → set (set (set (header a ++ tail) 0 n) 5 s) 6 k ≡ header (fronted k c) ++ tail
+-- The header with another count and another total.
+header-set : (a c : Archive) (n s : ℕ) (tail : List ℕ) → c .shape ≡ a .shape → length (c .rows) ≡ n → c .sum ≡ s → set (set (header a ++ tail) 0 n) 5 s ≡ header (fronted (a .front) c) ++ tail
 unfolding header
-header-set a c n s k tail e f g = rw (e, f, g)
+header-set a c n s tail e f g = rw (e, f, g)
+
+-- The front written in a layout.
+set-front : (a : Archive) (n : ℕ) (b : List ℕ) → set (layout a ++ b) 6 n ≡ layout (fronted n a) ++ b
+unfolding layout header
+set-front a n b = refl
 
 -- Zeros, part of them dropped or put before others.
 zeros-dropped : (m n k : ℕ) (b : List ℕ) → m + n ≡ k → drop m (replicate k 0 ++ b) ≡ replicate n 0 ++ b
@@ -82,13 +87,13 @@ module _ (w : List ℕ) (h : Passed w) where
       ∙ zeros-dropped (5 * (n - word w 0)) (5 * (word w 1 - n)) (5 * (word w 1 - word w 0)) (behind w) (omega arith)
 
   -- What an update leaves: the records of the new archive, with as many zeros behind them as cover the old ones, and then the
-  -- count, the total and a front.
-  pub stored : (w₂ w₃ : List ℕ) (c : Archive) (m j k : ℕ) → c .shape ≡ read w .shape → length (c .rows) ≡ m → word w 0 ≤ m + j → m + j ≤ word w 1
+  -- count and the total; the front is as it was.
+  pub stored-beside : (w₂ w₃ : List ℕ) (c : Archive) (m j : ℕ) → c .shape ≡ read w .shape → length (c .rows) ≡ m → word w 0 ≤ m + j → m + j ≤ word w 1
       → w₂ ≡ put w 8 (records (c .rows) ++ replicate (5 * j) 0)
-      → w₃ ≡ set (set (set w₂ 0 m) 5 (c .sum)) 6 k
-      → w₃ ≡ layout (fronted k c) ++ behind w
+      → w₃ ≡ set (set w₂ 0 m) 5 (c .sum)
+      → w₃ ≡ layout (fronted (read w .front) c) ++ behind w
   unfolding put read read-shape
-  stored w₂ w₃ c m j f shaped many covers fits e₂ e₃ =
+  stored-beside w₂ w₃ c m j shaped many covers fits e₂ e₃ =
       let long : length (records (c .rows) ++ replicate (5 * j) 0) ≡ 5 * (m + j) =
       length-append (records (c .rows)) (replicate (5 * j) 0)
       ∙ ap₂ _+_ (length-records (c .rows) ∙ ap (λ k. 5 * k) many) (length-replicate {A = ℕ} (5 * j) 0)
@@ -104,29 +109,31 @@ module _ (w : List ℕ) (h : Passed w) where
       ∙ ap₂ (λ a b. a ++ b) head (append-assoc (records (c .rows)) (replicate (5 * j) 0) _)
       ∙ ap (λ l. header (read w) ++ (records (c .rows) ++ l)) tail in
       e₃
-      ∙ ap (λ x. set (set (set x 0 m) 5 (c .sum)) 6 f) second
-      ∙ header-set (read w) c m (c .sum) f _ shaped many refl
-      ∙ sym (layout-laid (fronted f c) (behind w))
+      ∙ ap (λ x. set (set x 0 m) 5 (c .sum)) second
+      ∙ header-set (read w) c m (c .sum) _ shaped many refl
+      ∙ sym (layout-laid (fronted (read w .front) c) (behind w))
 
--- The front written in a layout.
-set-front : (a : Archive) (n : ℕ) (b : List ℕ) → set (layout a ++ b) 6 n ≡ layout (record { shape = a .shape; sum = a .sum; front = n; rows = a .rows }) ++ b
-unfolding layout header
-set-front a n b = refl
+  -- And then a front.
+  pub stored : (w₂ w₃ : List ℕ) (c : Archive) (m j k : ℕ) → c .shape ≡ read w .shape → length (c .rows) ≡ m → word w 0 ≤ m + j → m + j ≤ word w 1
+      → w₂ ≡ put w 8 (records (c .rows) ++ replicate (5 * j) 0)
+      → w₃ ≡ set (set (set w₂ 0 m) 5 (c .sum)) 6 k
+      → w₃ ≡ layout (fronted k c) ++ behind w
+  stored w₂ w₃ c m j k shaped many covers fits e₂ e₃ =
+      e₃ ∙ ap (λ x. set x 6 k) (stored-beside w₂ _ c m j shaped many covers fits e₂ refl) ∙ set-front (fronted (read w .front) c) k (behind w)
 
 -- Counted anew and written, in words that pass.
 pub front-written : (w : List ℕ) (n : ℕ) → archive-rows w 0 ≡ 0 → n ≡ front (held-points (read w)) → set w 6 n ≡ layout (renewed (read w .shape) (read w .sum) (read w .rows)) ++ behind w
 front-written w n p e =
-    ap (λ x. set x 6 n) (passed w p .laid) ∙ set-front (read w) n (behind w)
-    ∙ ap (λ k. layout (record { shape = read w .shape; sum = read w .sum; front = k; rows = read w .rows }) ++ behind w) e
+    ap (λ x. set x 6 n) (passed w p .laid) ∙ set-front (read w) n (behind w) ∙ ap (λ k. layout (fronted k (read w)) ++ behind w) e
 
--- What an update leaves passes rows 1 to 3, and with the front counted it is the new archive.
-module _ (w w₁ : List ℕ) (c : Archive) (s : Sound c) (e : w₁ ≡ layout (unfronted c) ++ behind w) where
-  sound : Sound (unfronted c)
+-- What an update leaves passes rows 1 to 3 with any front that does, and with the front counted it is the new archive.
+module _ (w w₁ : List ℕ) (c : Archive) (k : ℕ) (s : Sound c) (few : k ≤ length (c .rows)) (e : w₁ ≡ layout (fronted k c) ++ behind w) where
+  sound : Sound (fronted k c)
   sound =
       record {
         shaped = s .shaped;
         within-box = s .within-box;
-        front-within = omega arith;
+        front-within = few;
         held-within = s .held-within;
         rows-fit = s .rows-fit;
         in-order = s .in-order;
@@ -134,9 +141,15 @@ module _ (w w₁ : List ℕ) (c : Archive) (s : Sound c) (e : w₁ ≡ layout (u
       }
 
   pub update-passes : archive-rows w₁ 0 ≡ 0
-  update-passes = rw e (sound-passes (unfronted c) (behind w) 0 sound)
+  update-passes = rw e (sound-passes (fronted k c) (behind w) 0 sound)
+
+  pub update-read : read w₁ ≡ fronted k c
+  update-read = ap read e ∙ read-layout (fronted k c) (behind w)
+
+  pub update-behind : behind w₁ ≡ behind w
+  update-behind = ap behind e ∙ behind-layout (fronted k c) (behind w) (s .held-within)
 
   pub update-renewed : (w₂ : List ℕ) → w₂ ≡ layout (renewed (read w₁ .shape) (read w₁ .sum) (read w₁ .rows)) ++ behind w₁ → c .front ≡ front (held-points c) → w₂ ≡ layout c ++ behind w
   update-renewed w₂ f g =
-      f ∙ ap₂ (λ a b. layout (renewed (a .shape) (a .sum) (a .rows)) ++ b) (ap read e ∙ read-layout (unfronted c) (behind w)) (ap behind e ∙ behind-layout (unfronted c) (behind w) (s .held-within))
-      ∙ ap (λ k. layout (record { shape = c .shape; sum = c .sum; front = k; rows = c .rows }) ++ behind w) (sym g)
+      f ∙ ap₂ (λ a b. layout (renewed (a .shape) (a .sum) (a .rows)) ++ b) update-read update-behind
+      ∙ ap (λ n. layout (fronted n c) ++ behind w) (sym g)

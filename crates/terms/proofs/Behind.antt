@@ -1,13 +1,13 @@
 -- Words from 8 + 5 × capacity on are neither read nor written: the proof, by three forms of calls. A question answers by
 -- its rows and the archive that it reads; insert, remove and reduce write a new archive besides; start and loading go by
 -- the capacity given.
-use Prim.Native.Nat.{ℕ, zero, suc, _+_, _-_, _*_, _≤_, min}
+use Prim.Native.Nat.{ℕ, zero, suc, _+_, _-_, _*_, _%_, _≤_, min}
 use mathlib.Core.Path.{_≡_, refl, sym, ap, _∙_}
 use mathlib.Core.Bool.{Bool, true, false, not}
 use mathlib.Core.List.{List, _∷_, _++_, map, []}
 use mathlib.Core.Option.{Option, none, some}
 use native.Mathlib.Omega.{arith}
-use lib.Dec.{leb, ltb}
+use lib.Dec.{leb, ltb, eqb}
 use lib.ListN.{length, getD, take, drop, length-take}
 use lib.Seq.{take-all, take-at, drop-at}
 use borrow.Author.Tests.{ltb-false, le-ltb, not-false}
@@ -23,10 +23,13 @@ use Rattle.calls.specs.Calls.{empty, inserted, removed, least-row, least-rows, 
 use Rattle.calls.specs.declared.Answer.{Answer}
 use Rattle.calls.specs.Lent
 use Rattle.calls.specs.Lent.{Outcome, leaves, answer, least-answer, start-rows}
+use Rattle.calls.specs.Grid
+use Rattle.calls.specs.Grid.{grid-trials, filled, grid-rows, GridOutcome, grid-outcome}
 use Rattle.calls.specs.Replacement
 use Rattle.calls.specs.Replacement.{change-of, replace-rows, change}
 use Rattle.calls.proofs.Answers.{rows-refused}
 use Rattle.calls.proofs.Counted.{audited-counted}
+use Rattle.calls.proofs.Grid.{grid-passes, filled-fair}
 use Rattle.calls.proofs.Sound.{insert-passed, remove-passed, inserted-sound, removed-sound}
 use Rattle.calls.proofs.Drops.{drops-down}
 use Rattle.card.specs.Card
@@ -74,11 +77,15 @@ record LeftAlike (e : ℕ) (o p : Outcome) : Type 0 where
   words : take e (o .words) ≡ take e (p .words)
   log : o .log ≡ p .log
 
+-- The same words before a place, whatever lies behind.
+front-alike : (new b c : List ℕ) (e : ℕ) → length new ≡ e → take e (new ++ b) ≡ take e (new ++ c)
+front-alike new b c e long = take-at new b e long ∙ sym (take-at new c e long)
+
 leaves-alike : (v w log : List ℕ) (k value : ℕ) (new b c noted : List ℕ) (e : ℕ) → take e v ≡ take e w → (k ≡ 0 → length new ≡ e)
     → LeftAlike e (leaves v log k value (new ++ b) noted) (leaves w log k value (new ++ c) noted)
 unfolding leaves written
 leaves-alike v w log zero value new b c noted e same fits =
-    record { answer = refl; words = take-at new b e (fits refl) ∙ sym (take-at new c e (fits refl)); log = refl }
+    record { answer = refl; words = front-alike new b c e (fits refl); log = refl }
 leaves-alike v w log (suc k) value new b c noted e same fits = record { answer = refl; words = same; log = refl }
 
 refusals-alike : (v w log : List ℕ) (n : ℕ) (i j : ℕ) (a b c d : List ℕ) (e : ℕ) → take e v ≡ take e w
@@ -149,6 +156,39 @@ reduce-fits k rule log a s e =
     let n : ℕ = length (a .rows) - k in
     let all = drops-down rule n a s (audited-counted a (not-false _ (yes .0))) (omega arith) in
     length-layout (after-drops rule n a) (all .sound .held-within) ∙ ap (λ q. extent (q .capacity)) (drops-shape rule n a)
+
+-- A grid: the archive that it fills takes as many words as before.
+grid-fits : (ts : List Trial) (a : Archive) → Sound a → length (layout (filled a ts .archive)) ≡ extent (a .shape .capacity)
+grid-fits ts a s =
+    let all = filled-fair 0 a ts s (omega arith) in
+    length-layout (filled a ts .archive) (all .sound .held-within) ∙ ap (λ q. extent (q .capacity)) (all .shaped)
+
+-- Two outcomes of a grid that are alike before a place.
+record GridAlike (e : ℕ) (o p : GridOutcome) : Type 0 where
+  answer : o .answer ≡ p .answer
+  words : take e (o .words) ≡ take e (p .words)
+
+grid-alike : (g v w : List ℕ) → Alike (extent (word v 1)) v w → GridAlike (extent (word v 1)) (Grid.insert-grid v g) (Grid.insert-grid w g)
+unfolding Grid.insert-grid grid-rows guard grid-outcome read read-shape
+grid-alike g v w h = go (not (eqb (length g % 4) 0)) (seen v w h)
+  where
+    go : (odd : Bool) → Seen v w
+        → GridAlike (extent (word v 1)) (grid-outcome (guard odd 17 (archive-rows v 0)) v (filled (read v) (grid-trials g))) (grid-outcome (guard odd 17 (archive-rows w 0)) w (filled (read w) (grid-trials g)))
+    go true s = record { answer = refl; words = h .same }
+    go false (turned-down n e f) = rw (e, f) (record { answer = refl; words = h .same })
+    go false (held a b c s e f) =
+        let size : extent (a .shape .capacity) ≡ extent (word v 1) = ap (λ k. extent (k .shape .capacity)) (sym (reads v b a e)) in
+        let long : length (layout (filled a (grid-trials g) .archive)) ≡ extent (word v 1) = grid-fits (grid-trials g) a s ∙ size in
+        rw (passes v b a e s 0, passes w c a f s 0, reads v b a e, reads w c a f)
+        (record { answer = refl; words = front-alike (layout (filled a (grid-trials g) .archive)) (behind v) (behind w) (extent (word v 1)) long })
+
+grid-behind : (g w : List ℕ) → drop (extent (word w 1)) (Grid.insert-grid w g .words) ≡ drop (extent (word w 1)) w
+unfolding Grid.insert-grid grid-outcome behind read read-shape
+grid-behind g w = go (grid-rows w g) refl
+  where
+    go : (row : ℕ) → grid-rows w g ≡ row → drop (extent (word w 1)) (grid-outcome row w (filled (read w) (grid-trials g)) .words) ≡ drop (extent (word w 1)) w
+    go zero e = drop-at (layout (filled (read w) (grid-trials g) .archive)) (behind w) (extent (word w 1)) (grid-fits (grid-trials g) (read w) (passed w (grid-passes w g e) .sound))
+    go (suc row) e = refl
 
 -- Start: its earlier contents don't matter, and both slices are long enough.
 empty-fits : (s : Shape) → length (layout (empty s)) ≡ extent (s .capacity)
@@ -225,6 +265,9 @@ long-alike (ArchiveCall.start s) v w h =
     outcomes-alike _ v w _ _ refl refl (start-alike s v w h)
 long-alike (ArchiveCall.insert t) v w h =
     outcomes-alike _ v w _ _ refl refl (deed-alike (insert-deed t) (insert-fits t) [] v w h)
+long-alike (ArchiveCall.insert-grid g) v w h =
+    let same = grid-alike g v w h in
+    record { answer = ap (λ a. a .refusal ∷ a .inserted ∷ a .stop ∷ []) (same .answer); words = same .words; other = refl }
 long-alike (ArchiveCall.remove n) v w h =
     outcomes-alike _ v w _ _ refl refl (deed-alike (remove-deed n) (remove-fits n) [] v w h)
 long-alike (ArchiveCall.reduce k rule log) v w h =
@@ -280,6 +323,7 @@ not-written : (c : ArchiveCall) (w : List ℕ) → drop (reach c w) (result c w 
 unfolding reach capacity-for extent result written only-read Lent.insert Lent.remove Lent.reduce
 not-written (ArchiveCall.start s) w = start-behind s w
 not-written (ArchiveCall.insert t) w = deed-behind (insert-deed t) (insert-fits t) [] w
+not-written (ArchiveCall.insert-grid g) w = grid-behind g w
 not-written (ArchiveCall.remove n) w = deed-behind (remove-deed n) (remove-fits n) [] w
 not-written (ArchiveCall.reduce k rule log) w = deed-behind (reduce-deed k rule log) (reduce-fits k rule log) log w
 not-written (ArchiveCall.least rule) w = refl

@@ -10,6 +10,7 @@ use Rattle.words.specs.Layout.{word}
 use Rattle.calls.specs.declared.Answer.{Answer}
 use Rattle.calls.specs.Lent
 use Rattle.calls.specs.Lent.{Outcome}
+use Rattle.calls.specs.Grid
 use Rattle.calls.specs.Replacement
 use Rattle.card.specs.Card
 use Rattle.reports.specs.Report
@@ -20,6 +21,7 @@ use Rattle.terms.specs.Loading.{card-shape}
 pub data ArchiveCall : Type 0 where
   start : (shape : Shape) → ArchiveCall
   insert : (trial : Trial) → ArchiveCall
+  insert-grid : (grid : List ℕ) → ArchiveCall
   remove : (number : ℕ) → ArchiveCall
   least : (rule : ℕ) → ArchiveCall
   reduce : (k rule : ℕ) (log : List ℕ) → ArchiveCall
@@ -55,6 +57,13 @@ sides (negsuc n) = 0 ∷ suc n ∷ []
 unfoldable pub result : ArchiveCall → List ℕ → Result
 result (start s) w = written (Lent.start w s)
 result (insert t) w = written (Lent.insert w t)
+result (insert-grid g) w =
+    record {
+      answer =
+          Grid.insert-grid w g .answer .refusal ∷ Grid.insert-grid w g .answer .inserted ∷ Grid.insert-grid w g .answer .stop ∷ [];
+      words = Grid.insert-grid w g .words;
+      other = [];
+    }
 result (remove n) w = written (Lent.remove w n)
 result (least rule) w =
     record {
@@ -90,6 +99,7 @@ result (report out) w =
 unfoldable pub capacity-for : ArchiveCall → List ℕ → ℕ
 capacity-for (start s) w = s .capacity
 capacity-for (insert t) w = word w 1
+capacity-for (insert-grid g) w = word w 1
 capacity-for (remove n) w = word w 1
 capacity-for (least rule) w = word w 1
 capacity-for (reduce k rule log) w = word w 1

@@ -2,10 +2,12 @@
 // documents them for C.
 use calls::Answer;
 use calls::Change;
+use calls::GridAnswer;
 use calls::LeastAnswer;
 use card::Loaded;
 ghost use mathlib.Core.Path.{_≡_};
 ghost use Rattle.calls.specs.Lent.{start, insert, remove, least, reduce, joint, gain-answer, share, audit, trial-of, shape-of, MeetsOutcome};
+ghost use Rattle.calls.specs.Grid.{insert-grid};
 ghost use Rattle.calls.specs.Replacement.{replace-effect};
 ghost use Rattle.card.specs.Card.{load};
 ghost use Rattle.card.specs.Check.{check};
@@ -23,6 +25,13 @@ pub extern "C" fn ta_insert(words: &mut [u64], number: u64, x: u64, y: u64, z: u
     ensures { λ r. ⌜ (r ≡ insert (now (words .entry)) (trial-of number x y z) .refusal) × (now (words .exit) ≡ insert (now (words .entry)) (trial-of number x y z) .words) ⌝ }
 {
     insertion::insert(words, number, x, y, z)
+}
+
+#[no_mangle]
+pub extern "C" fn ta_insert_grid(words: &mut [u64], grid: &[u64]) -> GridAnswer
+    ensures { λ r. ⌜ (r ≡ insert-grid (now (words .entry)) (now (grid .entry)) .answer) × (now (words .exit) ≡ insert-grid (now (words .entry)) (now (grid .entry)) .words) ⌝ }
+{
+    grid::insert_grid(words, grid)
 }
 
 #[no_mangle]

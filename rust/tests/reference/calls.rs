@@ -181,6 +181,19 @@ pub fn insert(words: &mut [u64], number: u64, point: Point) -> Result<(), u64> {
     Ok(())
 }
 
+/// Document 02, W-203: how many went in, and the row that stopped it, or 0. "17: slice length not a
+/// multiple of four; checked first."
+pub fn insert_grid(words: &mut [u64], grid: &[u64]) -> Result<(u64, u64), u64> {
+    refuse_if(grid.len() % 4 != 0, 17)?;
+    read(words)?;
+    for (inserted, trial) in grid.chunks(4).enumerate() {
+        if let Err(row) = insert(words, trial[0], [trial[1], trial[2], trial[3]]) {
+            return Ok((inserted as u64, row));
+        }
+    }
+    Ok((grid.len() as u64 / 4, 0))
+}
+
 pub fn remove(words: &mut [u64], number: u64) -> Result<(), u64> {
     let mut archive = read(words)?;
     archive.remove(number)?;

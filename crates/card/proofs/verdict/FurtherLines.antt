@@ -23,7 +23,7 @@ use Rattle.card.specs.Card.{trial-on, line-count, lines, due}
 use Rattle.card.specs.Verdict.{refusal, archive, judge-further, answer-of}
 use Rattle.card.specs.Further.{number-due, taken, further-rows}
 use Rattle.card.proofs.CardLines.{inside, lines-due, no-lines-due}
-use Rattle.card.proofs.Judging.{inserted-count}
+use Rattle.calls.proofs.Sound.{inserted-count}
 use Rattle.card.proofs.Verdicts.{in-turn-refused, in-turn-passed, answers-refusal}
 
 -- One line more.

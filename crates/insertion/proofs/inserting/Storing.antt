@@ -7,17 +7,14 @@ use native.Mathlib.Numerals.{add-one}
 use native.Mathlib.Omega.{arith}
 use lib.ListN.{length, take, drop, set, length-map}
 use Rattle.words.specs.Archive.{Trial, Row, Archive, trials}
-use Rattle.words.specs.Layout.{records, layout, read, word, behind}
+use Rattle.words.specs.Layout.{records, read, word}
 use Rattle.words.specs.Places.{rows-before}
-use Rattle.words.proofs.Passed.{Passed, Sound, passed}
-use Rattle.calls.specs.Calls.{place, insert-gain, lowered, inserted, renewed, box-of, insert-overruns, admission-rows, insert-rows}
+use Rattle.words.proofs.Passed.{Passed, passed}
+use Rattle.calls.specs.Calls.{place, insert-gain, lowered, inserted, box-of, insert-overruns}
 use Rattle.records.specs.Columns.{rekept, column}
 use Rattle.records.specs.Ranks.{rank-of}
-use Rattle.records.specs.Fronts.{unfronted}
 use Rattle.records.proofs.Ranks.{rank-inside, place-ranked}
 use Rattle.calls.proofs.Known.{count-rows, known}
-use Rattle.calls.proofs.Answers.{guard-no}
-use Rattle.calls.proofs.Sound.{insert-passed, inserted-sound}
 use Rattle.records.proofs.Stored
 use Rattle.records.proofs.Stored.{rows-put}
 use Rattle.slices.specs.Put.{put}
@@ -30,8 +27,7 @@ use Rattle.slices.proofs.Choices.{either-false}
 use Rattle.words.specs.Format.{archive-rows}
 use Rattle.records.specs.declared.amounts.Moved.{Moved}
 use Rattle.records.specs.Amounts.{moved, some-pair, amounts-at}
-use Rattle.insertion.specs.Inserting.{InsertAmounts, InsertReady}
-use Rattle.insertion.proofs.inserting.Admitting.{admitted}
+use Rattle.insertion.specs.Inserting.{InsertAmounts, InsertReady, entered}
 use Rattle.records.proofs.MovedAmounts.{lowered-rows, falls-below-pairs}
 
 -- Storing an insertion: sums fit, and the words left are the new layout.
@@ -57,8 +53,8 @@ insert-stored : (w w₁ w₂ w₃ vs : List ℕ) (t : Trial) (k : ℕ) → Passe
     → rekept (read w .rows) vs ≡ map (lowered (read w) t) (read w .rows)
     → w₁ ≡ put w 8 (records (rekept (rows-before w (word w 0)) vs))
     → w₂ ≡ put w₁ 8 (records (take k (rows-before w₁ (word w 0)) ++ (record { trial = t; kept = insert-gain (read w) t } ∷ drop k (rows-before w₁ (word w 0)))))
-    → w₃ ≡ set (set (set w₂ 0 (word w 0 + 1)) 5 (word w 5 + insert-gain (read w) t)) 6 0
-    → w₃ ≡ layout (unfronted (inserted (read w) t)) ++ behind w
+    → w₃ ≡ set (set w₂ 0 (word w 0 + 1)) 5 (word w 5 + insert-gain (read w) t)
+    → w₃ ≡ entered w t
 unfolding inserted read
 insert-stored w w₁ w₂ w₃ vs t k h l ranked lower e₁ e₂ e₃ =
     let a = read w in
@@ -83,21 +79,21 @@ insert-stored w w₁ w₂ w₃ vs t k h l ranked lower e₁ e₂ e₃ =
     ∙ put-over w 8 (records rows ++ []) (records new)
     (let s : 8 + length (records (map (lowered (read w) t) (read w .rows)) ++ []) ≤ length w = omega arith in s)
     (let s : length (records (map (lowered (read w) t) (read w .rows)) ++ []) ≤ length (records (place (λ r. r .trial) (record { trial = t; kept = insert-gain (read w) t }) (map (lowered (read w) t) (read w .rows)))) = omega arith in s) in
-    Stored.stored w h w₂ w₃ (inserted a t) (word w 0 + 1) 0 0 refl grown (omega arith) (omega arith)
+    Stored.stored-beside w h w₂ w₃ (inserted a t) (word w 0 + 1) 0 refl grown (omega arith) (omega arith)
     (second ∙ ap (put w 8) (sym (append-nil (records new)))) e₃
 
 pub insertion-stored : (w w₁ w₂ w₃ places counts : List ℕ) (t : Trial) (g k : ℕ) → InsertReady w t g places counts
     → k ≡ rank-of t (trials (rows-before w (word w 0)))
     → w₁ ≡ put w 8 (records (rekept (rows-before w (word w 0)) (moved (λ v m. v - m) (column 4 (rows-before w (word w 0))) (amounts-at (word w 0) places counts))))
     → w₂ ≡ put w₁ 8 (records (take k (rows-before w₁ (word w 0)) ++ (record { trial = t; kept = g } ∷ drop k (rows-before w₁ (word w 0)))))
-    → w₃ ≡ set (set (set w₂ 0 (word w 0 + 1)) 5 (word w 5 + g)) 6 0
-    → w₃ ≡ layout (unfronted (inserted (read w) t)) ++ behind w
+    → w₃ ≡ set (set w₂ 0 (word w 0 + 1)) 5 (word w 5 + g)
+    → w₃ ≡ entered w t
 unfolding read
 insertion-stored w w₁ w₂ w₃ places counts t g k h ranked e₁ e₂ e₃ =
     insert-stored w w₁ w₂ w₃ _ t k (passed w (h .passes)) (h .free) ranked
     (ap (λ l. rekept (read w .rows) (moved (λ v m. v - m) (column 4 (read w .rows)) l)) (h .lowers .shared) ∙ lowered-rows (read w) t (read w .rows)) e₁
     (e₂ ∙ ap (λ x. put w₁ 8 (records (take k (rows-before w₁ (word w 0)) ++ (record { trial = t; kept = x } ∷ drop k (rows-before w₁ (word w 0)))))) (h .gained))
-    (e₃ ∙ ap (λ k. set (set (set w₂ 0 (word w 0 + 1)) 5 (word w 5 + k)) 6 0) (h .gained))
+    (e₃ ∙ ap (λ k. set (set w₂ 0 (word w 0 + 1)) 5 (word w 5 + k)) (h .gained))
 
 -- Row 13, or what storing asks.
 module _ {w : List ℕ} {t : Trial} {places counts : List ℕ} {m : Moved} (h : InsertAmounts w t places counts m) where
@@ -120,14 +116,3 @@ module _ {w : List ℕ} {t : Trial} {places counts : List ℕ} {m : Moved} (h : 
         lowers = h .lowers;
         enough = ap (some-pair (λ v m. ltb v m) (column 4 (read w .rows))) (h .lowers .shared) ∙ sym (falls-below-pairs (read w) t (read w .rows)) ∙ parts .1;
       }
-
--- What is stored passes rows 1 to 3, and with the front counted it is the archive with the trial inserted.
-module _ (w w₁ : List ℕ) (t : Trial) (p : archive-rows w 0 ≡ 0) (q : admission-rows (read w) t 0 ≡ 0) (f : insert-overruns (read w) t ≡ false) (e : w₁ ≡ layout (unfronted (inserted (read w) t)) ++ behind w) where
-  sound : Sound (inserted (read w) t)
-  sound = inserted-sound (read w) t (known w p .sound) (insert-passed (read w) t (unfold insert-rows in (admitted w t p q .onward _ ∙ guard-no _ 13 0 f)))
-
-  pub insertion-passes : archive-rows w₁ 0 ≡ 0
-  insertion-passes = Stored.update-passes w w₁ (inserted (read w) t) sound e
-
-  pub insertion-renewed : (w₂ : List ℕ) → w₂ ≡ layout (renewed (read w₁ .shape) (read w₁ .sum) (read w₁ .rows)) ++ behind w₁ → w₂ ≡ layout (inserted (read w) t) ++ behind w
-  insertion-renewed w₂ g = Stored.update-renewed w w₁ (inserted (read w) t) sound e w₂ g (unfold inserted in refl)

@@ -158,7 +158,7 @@ module _ (w w₁ : List ℕ) (k : ℕ) (p : archive-rows w 0 ≡ 0) (q : k < wor
   sound = removed-sound (read w) (number-at w k) (known w p .sound) (record { known = known-number; fits = f })
 
   pub removal-passes : archive-rows w₁ 0 ≡ 0
-  removal-passes = Stored.update-passes w w₁ (removed (read w) (number-at w k)) sound e
+  removal-passes = Stored.update-passes w w₁ (removed (read w) (number-at w k)) 0 sound (omega arith) e
 
   pub removal-renewed : (w₂ : List ℕ) → w₂ ≡ layout (renewed (read w₁ .shape) (read w₁ .sum) (read w₁ .rows)) ++ behind w₁ → w₂ ≡ layout (removed (read w) (number-at w k)) ++ behind w
-  removal-renewed w₂ g = Stored.update-renewed w w₁ (removed (read w) (number-at w k)) sound e w₂ g (unfold removed in refl)
+  removal-renewed w₂ g = Stored.update-renewed w w₁ (removed (read w) (number-at w k)) 0 sound (omega arith) e w₂ g (unfold removed in refl)

@@ -35,9 +35,6 @@ slice-write-w c = omega (arith, known (c .before .before .before .before .before
 slice-write-w-2 : tie.Need-slice-write-w-2
 slice-write-w-2 c = simp length-set (omega (arith, known (c .before .before .before .before .before .before .before .before .before .before .before .before .before .before .before .args .w .now) (c .before .before .before .before .before .before .before .before .before .before .before .before .before .before .before .pre .passes), c .before .before .before .before .before .before .lower-at .kept .0, c .before .before .enter-at .kept .0))
 
-slice-write-w-3 : tie.Need-slice-write-w-3
-slice-write-w-3 c = simp length-set (omega (arith, known (c .before .before .before .before .before .before .before .before .before .before .before .before .before .before .before .args .w .now) (c .before .before .before .before .before .before .before .before .before .before .before .before .before .before .before .pre .passes), c .before .before .before .before .before .before .lower-at .kept .0, c .before .before .enter-at .kept .0))
-
 same-length : tie.Need-same-length
 same-length c = simp length-set (omega (arith, c .before .before .before .before .before .before .lower-at .kept .0, c .before .before .enter-at .kept .0))
 
@@ -57,6 +54,5 @@ store-spec =
     add-w
     slice-write-w
     slice-write-w-2
-    slice-write-w-3
     same-length
     returns)

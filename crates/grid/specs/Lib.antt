@@ -1,0 +1,2 @@
+-- For the contract of filling; no exported contract cites it.
+pub mod Filling

@@ -1,0 +1,2 @@
+-- What the crates above use of an insertion.
+pub mod Entering
