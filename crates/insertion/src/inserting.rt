@@ -139,9 +139,9 @@ pub fn enter(
     requires { ⌜ (archive-rows (now w) 0 ≡ 0) × Room (now points) (now corners) (now places) (now line) (now counts) ⌝ }
     ensures { λ r. ⌜ Enters (now (w .entry)) (as-row row .trial) r (now (w .exit)) ⌝ }
 {
-    let turned = admission(w, row);
-    if turned != 0 {
-        return turned;
+    let turned_away = admission(w, row);
+    if turned_away != 0 {
+        return turned_away;
     }
     let p = Point::new(row.x, row.y, row.z);
     put_in(w, row.number, p, points, corners, places, line, counts)
