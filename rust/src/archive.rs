@@ -76,7 +76,7 @@ impl Archive {
     }
 
     /// Inserts a whole grid of trials, each a number and a point, one by one up to the first that is
-    /// turned down; earlier ones stay. Many times as fast as as many insertions.
+    /// turned down; earlier ones stay. Three to four times as fast as that many insertions.
     pub fn insert_grid(&mut self, grid: &[[u64; 4]]) -> Result<Filled, Refusal> {
         words::insert_grid(&mut self.words, grid)
     }
