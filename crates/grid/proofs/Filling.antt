@@ -15,7 +15,7 @@ use Rattle.calls.specs.Lent.{trial-of}
 use Rattle.calls.specs.Grid.{grid-trial, trials-from, grid-trials, Filling, unless-stopped, filled}
 use Rattle.calls.proofs.Earlier.{inserted-front, insert-rows-front}
 use Rattle.records.specs.Fronts.{fronted, unfronted}
-use Rattle.insertion.specs.Inserting.{entered, Enters}
+use Rattle.insertion.specs.Inserting.{Enters}
 use Rattle.insertion.proofs.Entering.{entered-passes, entered-read, entered-behind}
 use Rattle.grid.specs.Filling.{Fills}
 

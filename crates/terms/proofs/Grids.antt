@@ -5,7 +5,7 @@ use mathlib.Core.Bool.{Bool, true, false}
 use mathlib.Core.List.{List, _∷_, _++_, append-nil, []}
 use native.Mathlib.Omega.{arith}
 use lib.Dec.{leb}
-use lib.ListN.{length, take, drop, replicate, length-append, length-take, drop-of-length-le, take-append-drop}
+use lib.ListN.{length, take, drop, replicate, length-append, drop-of-length-le, take-append-drop}
 use lib.Seq.{take-all, take-at, drop-at, length-take-le}
 use Rattle.hypervolume.proofs.Tests.{Compared, below, above, compared}
 use Rattle.words.specs.Archive.{Trial, Shape}
@@ -18,6 +18,8 @@ use Rattle.calls.specs.Lent
 use Rattle.calls.specs.Lent.{leaves}
 use Rattle.calls.specs.Grid
 use Rattle.calls.specs.Grid.{Filling, filled, grid-trials, grid-rows, GridOutcome, grid-outcome, insert-grid, one-by-one}
+use Rattle.calls.proofs.Answers.{leaves-refused}
+use Rattle.calls.proofs.Lent.{leaves-refusal}
 use Rattle.calls.proofs.Grid.{grids}
 use Rattle.calls.proofs.Sound.{insert-passed, inserted-sound}
 use Rattle.history.specs.Book.{Book}
@@ -74,12 +76,9 @@ insert-answered w t = go (archive-rows w (insert-rows (read w) t))
     go (suc row) = refl
 
 insert-stays : (w : List ℕ) (t : Trial) (row : ℕ) → Lent.insert w t .refusal ≡ suc row → Lent.insert w t .words ≡ w
-unfolding Lent.insert leaves
-insert-stays w t row = go (archive-rows w (insert-rows (read w) t))
-  where
-    go : (n : ℕ) → leaves w [] n 0 (layout (inserted (read w) t) ++ behind w) [] .refusal ≡ suc row → leaves w [] n 0 (layout (inserted (read w) t) ++ behind w) [] .words ≡ w
-    go zero e = absurd (let no′ : ⊥ = omega (arith, e) in no′)
-    go (suc n) e = refl
+unfolding Lent.insert
+insert-stays w t row e =
+    ap (λ o. o .words) (leaves-refused w [] _ (suc row) 0 _ [] (sym (leaves-refusal w [] _ 0 _ []) ∙ e) (λ z. let no′ : ⊥ = omega (arith, z) in no′))
 
 -- The insertions of a grid as calls.
 record Made (lent : ℕ) (calls : List Call) (w : List ℕ) (o : GridOutcome) : Type 0 where

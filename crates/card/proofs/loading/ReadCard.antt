@@ -24,7 +24,7 @@ use Rattle.records.specs.Fronts.{fronted, unfronted}
 use Rattle.records.proofs.Stored
 use Rattle.insertion.specs.Inserting.{Enters}
 use Rattle.card.specs.declared.Loaded.{Loaded}
-use Rattle.card.specs.Card.{shape-on, trial-on, line-count, lines, due, malformed, by-form, first-line, judged, load, ReadInto}
+use Rattle.card.specs.Card.{shape-on, trial-on, line-count, lines, due, malformed, by-form, first-line, load, ReadInto}
 use Rattle.card.specs.Verdict.{Verdict, refusal, archive, in-turn, judge-further, judge, answer-of, words-of, carried-out}
 use Rattle.card.specs.Reading.{EntersLine, row-15, of-the-form}
 use Rattle.card.proofs.CardLines.{Inside, lines-due, no-lines-due}
