@@ -1,16 +1,19 @@
 /*
  * A caller of every call: document 01's card and report, its "Counts to meet",
  * shares at their ties, whole grids, replacements up to the largest, the front
- * and archives kept from before it, ties by both rules, one meeting with each
- * refusal, coordinates on both sides of every limit, numbers as C passes them,
- * and what the header defines: the structs' fields and the lengths. Lent memory
- * stands between guards, and what a call only reads is compared after it.
+ * and archives kept from before it, ties by both rules, cards written back and
+ * loaded again, one meeting with each refusal, coordinates on both sides of
+ * every limit, numbers as C passes them, and what the header defines: the
+ * structs' fields and the lengths. Lent memory stands between guards, and what a
+ * call only reads is compared after it.
  * Prints what went wrong, and at the end 'N passed, M failed'; ends with 1
  * where something failed.
  */
 #include "trial_archive.h"
 
+#include <inttypes.h>
 #include <stdio.h>
+#include <stdlib.h>
 #include <string.h>
 
 #define LENGTH(array) (sizeof (array) / sizeof (array)[0])
@@ -247,17 +250,30 @@ static void check_log(size_t written)
     CHECK(is_filled(log_words + written, LOG - written + GUARD));
 }
 
-/* Writes the report of the first words into the first bytes of an output that
-   holds '#'. */
-static ta_answer write_report(size_t len, size_t out_len)
+/* ta_report or ta_card_write. */
+typedef ta_answer writer(const uint64_t *, size_t, uint8_t *, size_t);
+
+/* Writes what the first words say into the first bytes of an output that holds
+   '#'. */
+static ta_answer write_by(writer *call, size_t len, size_t out_len)
 {
     ta_answer answer;
 
     memset(out_memory, '#', sizeof out_memory);
     remember(lent);
-    answer = ta_report(words, len, out, out_len);
+    answer = call(words, len, out, out_len);
     check_untouched(lent);
     return answer;
+}
+
+static ta_answer write_report(size_t len, size_t out_len)
+{
+    return write_by(ta_report, len, out_len);
+}
+
+static ta_answer write_card(size_t len, size_t out_len)
+{
+    return write_by(ta_card_write, len, out_len);
 }
 
 /* Only the first bytes of the output, or none, are written. */
@@ -638,6 +654,7 @@ static void kept_from_before(void)
     CHECK(is_answer(gain(1, 1, 1), TA_DONE, 6));
     CHECK(is_answer(share(), TA_DONE, 328125));
     CHECK(is_answer(write_report(LENT, OUT), TA_DONE, TA_REPORT_BYTES(4)));
+    CHECK(is_answer(write_card(LENT, OUT), TA_DONE, TA_CARD_BYTES(4)));
     remember(before);
     CHECK(is_answer(reduce(2, TA_TIE_LOWEST, 4), TA_MISCOUNT, 0));
     CHECK(is_answer(reduce(4, TA_TIE_LOWEST, 0), TA_MISCOUNT, 0));
@@ -748,6 +765,163 @@ static void card_and_report(void)
     check_out(REPORT);
 }
 
+/* ---- cards written back */
+
+static const char card_in_order[] =
+    "       8       4       4       4\n"
+    "       3       2       2       1\n"
+    "       2       2       1       2\n"
+    "       1       1       2       2\n"
+    "       4       1       1       3\n";
+
+/* The archive is written as this card, and nothing behind it. */
+static void check_written(const char *expected)
+{
+    size_t length = strlen(expected);
+
+    CHECK(is_answer(write_card(LENT, OUT), TA_DONE, length));
+    CHECK(memcmp(out, expected, length) == 0);
+    check_out(length);
+    /* room for it alone, and an archive without words behind */
+    CHECK(is_answer(write_card(WORDS, length), TA_DONE, length));
+    CHECK(memcmp(out, expected, length) == 0);
+    check_out(length);
+    CHECK(is_answer(write_card(LENT, length - 1), TA_OUTPUT_SHORT, 0));
+    check_out(0);
+    CHECK(is_answer(write_card(LENT, 0), TA_OUTPUT_SHORT, 0));
+    check_out(0);
+}
+
+/* The card written, loaded into a longer slice: these words, and those behind
+   as they were. */
+static void check_restored(const uint64_t *counted)
+{
+    uint64_t second[2 * WORDS];
+    size_t length = write_card(LENT, OUT).value;
+    ta_load_answer loaded;
+
+    fill(second, LENGTH(second));
+    CHECK(ta_card_check(out, length) == TA_DONE);
+    loaded = ta_card_load(second, LENGTH(second), out, length);
+    CHECK(is_load(loaded, TA_DONE, 0, counted[TA_COUNT]));
+    CHECK(memcmp(second, counted, WORDS * sizeof *counted) == 0);
+    CHECK(is_filled(second + WORDS, LENGTH(second) - WORDS));
+}
+
+static void cards_written(void)
+{
+    const uint64_t most = TA_MAX_REFERENCE;
+    uint64_t counted[WORDS];
+
+    fill(memory, LENGTH(memory));
+    CHECK(is_load(load_first(LENT, CARD), TA_DONE, 0, 4));
+    memcpy(counted, words, sizeof counted);
+    CHECK(CARD == TA_CARD_BYTES(4));
+    check_written(card_in_order);
+    check_restored(counted);
+
+    /* kept sums that are wrong do not show, and loading counts anew */
+    words[TA_TOTAL] = 20;
+    CHECK(is_answer(audit(), TA_DONE, 0));
+    check_written(card_in_order);
+    check_restored(counted);
+    words[TA_TOTAL] = 64;
+    words[TA_FRONT] = 0;
+    words[TA_RECORDS + 4] = 64;
+    CHECK(is_answer(audit(), TA_DONE, 0));
+    check_written(card_in_order);
+    check_restored(counted);
+
+    /* no trial, and a reference with three numbers */
+    start(5, 6, 7);
+    CHECK(TA_CARD_BYTES(0) == 33);
+    check_written("       8       5       6       7\n");
+    check_restored(words);
+
+    /* the widest numbers, and the narrowest */
+    start(most, most, most);
+    CHECK(insert(TA_MAX_NUMBER, most, most, most) == TA_DONE);
+    CHECK(insert(1, 0, 0, 0) == TA_DONE);
+    check_written("       8 1048576 1048576 1048576\n"
+                  "       1       0       0       0\n"
+                  " 9999999 1048576 1048576 1048576\n");
+    check_restored(words);
+}
+
+/* A trial's four words in archive order: by z, then y, then x, then number. */
+static int by_order(const void *left, const void *right)
+{
+    const uint64_t *a = left;
+    const uint64_t *b = right;
+    int i;
+
+    for (i = 3; i >= 0; i--) {
+        if (a[i] != b[i]) {
+            return a[i] < b[i] ? -1 : 1;
+        }
+    }
+    return 0;
+}
+
+static void put_line(uint8_t *at, const uint64_t *field)
+{
+    char line[4 * 20 + 2];
+
+    sprintf(line, "%8" PRIu64 "%8" PRIu64 "%8" PRIu64 "%8" PRIu64 "\n",
+            field[0], field[1], field[2], field[3]);
+    memcpy(at, line, TA_CARD_BYTES(0));
+}
+
+/* So many random trials, many of them equal on some axes or on all: written as
+   the same trials sorted here, and restored. */
+static void many_written(uint64_t capacity, size_t count)
+{
+    static uint64_t first[TA_WORDS(TA_MAX_CAPACITY)];
+    static uint64_t second[TA_WORDS(TA_MAX_CAPACITY) + BEHIND];
+    static uint64_t trials[TA_MAX_CAPACITY][4];
+    static uint8_t expected[TA_CARD_BYTES(TA_MAX_CAPACITY) + BEHIND];
+    static uint8_t written[sizeof expected];
+    const size_t len = TA_WORDS(capacity);
+    const size_t length = TA_CARD_BYTES(count);
+    uint64_t line_1[4] = {capacity, 0, 0, 0};
+    size_t i;
+    size_t axis;
+    int whole = 1;
+
+    for (axis = 1; axis < 4; axis++) {
+        line_1[axis] = 1 + next_random() % TA_MAX_REFERENCE;
+    }
+    for (i = 0; i < count; i++) {
+        /* wide and narrow in turn, both falling */
+        trials[i][0] = i % 2 == 0 ? TA_MAX_NUMBER - i : TA_MAX_CAPACITY - i;
+        for (axis = 1; axis < 4; axis++) {
+            trials[i][axis] = next_random() % (i % 4 == 0 ? TA_MAX_COORDINATE + 1 : 3);
+        }
+    }
+    CHECK(ta_start(first, len, line_1[1], line_1[2], line_1[3], capacity) == TA_DONE);
+    CHECK(is_grid(ta_insert_grid(first, len, trials[0], 4 * count), TA_DONE, count, TA_DONE));
+
+    memset(expected, '#', sizeof expected);
+    qsort(trials, count, sizeof trials[0], by_order);
+    put_line(expected, line_1);
+    for (i = 0; i < count; i++) {
+        put_line(expected + TA_CARD_BYTES(i), trials[i]);
+    }
+    memset(written, '#', sizeof written);
+    CHECK(is_answer(ta_card_write(first, len, written, length - 1), TA_OUTPUT_SHORT, 0));
+    for (i = 0; i < sizeof written; i++) {
+        whole = whole && written[i] == '#';
+    }
+    CHECK(whole);
+    CHECK(is_answer(ta_card_write(first, len, written, length), TA_DONE, length));
+    CHECK(memcmp(written, expected, sizeof written) == 0);
+
+    fill(second, LENGTH(second));
+    CHECK(is_load(ta_card_load(second, len + BEHIND, written, length), TA_DONE, 0, count));
+    CHECK(memcmp(second, first, len * sizeof *first) == 0);
+    CHECK(is_filled(second + len, LENGTH(second) - len));
+}
+
 /* ---- the refusals, by their numbers: zeros for all else, memory as before */
 
 /* Rows 1 to 3, given by every call that reads an archive. */
@@ -768,6 +942,13 @@ static void check_row(uint64_t row, size_t len)
     CHECK(is_answer(write_report(len, OUT), row, 0));
     check_log(0);
     check_out(0);
+    CHECK(is_answer(write_card(len, OUT), row, 0));
+    check_out(0);
+    /* before row 16 */
+    CHECK(is_answer(write_report(len, 0), row, 0));
+    check_out(0);
+    CHECK(is_answer(write_card(len, 0), row, 0));
+    check_out(0);
     check_untouched(before);
 }
 
@@ -780,6 +961,10 @@ static void rows_1_to_3(void)
     words[TA_CAPACITY] = TA_MAX_CAPACITY + 1;
     check_row(TA_BAD_HEADER, LENT);
     words[TA_CAPACITY] = 8;
+    /* the bytes of so many lines are 0 in 64 bits */
+    words[TA_COUNT] = UINT64_MAX;
+    check_row(TA_BAD_HEADER, LENT);
+    words[TA_COUNT] = 4;
     words[TA_TOTAL] = 65;
     check_row(TA_BAD_HEADER, LENT);
     check_row(TA_BAD_HEADER, 8);
@@ -995,6 +1180,7 @@ HOLDS(load_count_third, offsetof(ta_load_answer, count) == 16);
 /* The lengths are constants. */
 HOLDS(words_of_the_largest, TA_WORDS(TA_MAX_CAPACITY) == 2568);
 HOLDS(log_of_the_largest, TA_LOG_WORDS(TA_MAX_CAPACITY, 0) == 1024);
+HOLDS(card_of_the_largest, TA_CARD_BYTES(TA_MAX_CAPACITY) == 16929);
 HOLDS(report_of_the_largest, TA_REPORT_BYTES(TA_MAX_CAPACITY) == 27189);
 
 /* Each field holds what its name says: values that differ within a struct. */
@@ -1076,6 +1262,11 @@ int main(void)
     fronts();
     kept_from_before();
     card_and_report();
+    cards_written();
+    many_written(1, 1);
+    many_written(TA_MAX_CAPACITY, 0);
+    many_written(200, 199);
+    many_written(TA_MAX_CAPACITY, TA_MAX_CAPACITY);
     rows_1_to_3();
     rows_4_to_10();
     rows_11_to_13();

@@ -1,7 +1,7 @@
 /*
- * Faults for the tests of the report program. Loaded before it (LD_PRELOAD),
- * this library makes its reads of descriptor 0 and its writes of descriptor 1
- * go wrong as the environment says:
+ * Faults for the tests of the report program and of write_card. Loaded before
+ * one of them (LD_PRELOAD), this library makes its reads of descriptor 0 and
+ * its writes of descriptor 1 go wrong as the environment says:
  *
  *   FAULT_READ_AT_MOST=N      a read moves at most N bytes
  *   FAULT_READ_AFTER=N        after N bytes in all, reads fail with EIO

@@ -18,7 +18,7 @@ enum { STACK_BYTES = 1 << 20, MARK = 0xa5, LINE = 33 };
 static uint64_t words[TA_WORDS(TA_MAX_CAPACITY)];
 static uint64_t log_words[2 * TA_MAX_CAPACITY];
 static uint8_t out[TA_REPORT_BYTES(TA_MAX_CAPACITY)];
-static uint8_t card[LINE * (TA_MAX_CAPACITY + 1)];
+static uint8_t card[TA_CARD_BYTES(TA_MAX_CAPACITY)];
 
 static const uint64_t grid[] = {TA_MAX_NUMBER, 1, 2, 3};
 static const size_t len = sizeof words / sizeof words[0];
@@ -38,10 +38,11 @@ static void share(void) { answer = ta_share(words, len).refusal; }
 static void audit(void) { answer = ta_audit(words, len).refusal; }
 static void card_check(void) { answer = ta_card_check(card, sizeof card); }
 static void card_load(void) { answer = ta_card_load(words, len, card, sizeof card).refusal; }
+static void card_write(void) { answer = ta_card_write(words, len, out, sizeof out).refusal; }
 static void report(void) { answer = ta_report(words, len, out, sizeof out).refusal; }
 
 /* A card of 512 trials near one plane, so that a reduction has work to do. */
-static void write_card(void)
+static void fill_card(void)
 {
     char line[LINE + 1];
     int i;
@@ -99,15 +100,16 @@ int main(void)
         {"ta_start", start}, {"ta_card_check", card_check}, {"ta_card_load", card_load},
         {"ta_least", least}, {"ta_joint", joint}, {"ta_gain", gain},
         {"ta_replace_effect", replace_effect}, {"ta_share", share}, {"ta_audit", audit},
-        {"ta_report", report}, {"ta_remove", remove_trial}, {"ta_insert_grid", insert_grid},
-        {"ta_remove", remove_trial}, {"ta_insert", insert}, {"ta_reduce", reduce},
+        {"ta_card_write", card_write}, {"ta_report", report}, {"ta_remove", remove_trial},
+        {"ta_insert_grid", insert_grid}, {"ta_remove", remove_trial}, {"ta_insert", insert},
+        {"ta_reduce", reduce},
     };
     size_t base;
     size_t i;
     int passed = 0;
     int failed = 0;
 
-    write_card();
+    fill_card();
     /* One trial has the number that is removed and inserted again. */
     memcpy(card + LINE, " 9999999", 8);
     touched_by(nothing);

@@ -116,6 +116,22 @@ inline Bytes card_of(const Trials &trials, std::size_t capacity, Point reference
     return card;
 }
 
+// The card of these words: their trials in archive order.
+inline Bytes card_of(const Words &words)
+{
+    auto point = [&](std::size_t at) {
+        Point p;
+        std::copy_n(&words[at], 3, p.begin());
+        return p;
+    };
+    Trials trials;
+    for (std::size_t i = 0; i < words[TA_COUNT]; i++) {
+        std::size_t record = TA_RECORDS + TA_RECORD_WORDS * i;
+        trials.push_back(Trial{words[record], point(record + 1)});
+    }
+    return card_of(trials, words[TA_CAPACITY], point(TA_REFERENCE));
+}
+
 inline Bytes report_of(const Words &words)
 {
     Bytes report;
@@ -232,17 +248,22 @@ public:
         return c;
     }
 
-    Case report() const
+    Case card_written() const { return text(card_of(full)); }
+
+    Case report() const { return text(report_of(full)); }
+
+private:
+    // What is written of the whole archive.
+    Case text(const Bytes &written) const
     {
         Case c;
         c.before.words = c.after.words = full;
-        c.after.out = report_of(full);
-        c.before.out.resize(c.after.out.size());
-        c.after.value = c.after.out.size();
+        c.before.out.resize(written.size());
+        c.after.out = written;
+        c.after.value = written.size();
         return c;
     }
 
-private:
     Case counted(const Trials &trials, const std::vector<Count> &contributions) const
     {
         Case c;

@@ -27,13 +27,14 @@ struct Library {
     decltype(&ta_reduce) reduce;
     decltype(&ta_audit) audit;
     decltype(&ta_card_load) card_load;
+    decltype(&ta_card_write) card_write;
     decltype(&ta_report) report;
 };
 
-const Library archive{"archive", ta_insert, ta_insert_grid, ta_remove, ta_least,
-                      ta_reduce, ta_audit,  ta_card_load,   ta_report};
-const Library yardstick{"rust",    rs_insert, rs_insert_grid, rs_remove, rs_least,
-                        rs_reduce, rs_audit,  rs_card_load,   rs_report};
+const Library archive{"archive", ta_insert, ta_insert_grid, ta_remove,     ta_least,
+                      ta_reduce, ta_audit,  ta_card_load,   ta_card_write, ta_report};
+const Library yardstick{"rust",    rs_insert, rs_insert_grid, rs_remove,     rs_least,
+                        rs_reduce, rs_audit,  rs_card_load,   rs_card_write, rs_report};
 
 // What is timed of them.
 using Task = void (*)(const Library &, State &, const Case &);
@@ -97,6 +98,13 @@ void card_load(const Library &l, State &s, const Case &c)
         l.card_load(s.words.data(), s.words.size(), c.card.data(), c.card.size());
     s.refusal = answer.refusal;
     s.value = answer.count;
+}
+
+void card_write(const Library &l, State &s, const Case &)
+{
+    ta_answer answer = l.card_write(s.words.data(), s.words.size(), s.out.data(), s.out.size());
+    s.refusal = answer.refusal;
+    s.value = answer.value;
 }
 
 void report(const Library &l, State &s, const Case &)
@@ -348,6 +356,8 @@ const std::string one_removal = "removal";
 const std::string insertions = "insertions, one by one";
 const std::string one_grid = "grid";
 const std::string reducing = "reduce";
+const std::string card_written = "card written";
+const std::string one_report = "report";
 
 // Coordinates that many points share.
 const std::uint32_t coarse = 32;
@@ -392,7 +402,9 @@ public:
         for (Kind kind : kinds)
             plain("card load", card_load, &Story::card, kind, 1);
         for (Kind kind : kinds)
-            plain("report", report, &Story::report, kind, 8);
+            plain(card_written, card_write, &Story::card_written, kind, 8);
+        for (Kind kind : kinds)
+            plain(one_report, report, &Story::report, kind, 8);
         notes();
         smallest();
         targets();
@@ -423,6 +435,7 @@ private:
                 compare(*library, grid, "small grid", {story.grid()});
                 compare(*library, one_by_one, "small insertions", {story.grid()});
                 compare(*library, card_load, "small card", {story.card()});
+                compare(*library, card_write, "small card written", {story.card_written()});
                 compare(*library, report, "small report", {story.report()});
                 compare_no(*library, {story.audit()});
             }
@@ -570,12 +583,16 @@ private:
                     ratios.push_back(r.archive.median() / r.rust.median());
             target(call + ", archive ÷ rust", ratios, true, bound);
         }
-        std::vector<double> grids;
-        for (const Row &r : rows)
-            for (const Row &q : rows)
-                if (r.call == one_grid && q.call == insertions && r.set == q.set)
-                    grids.push_back(r.archive.median() / q.archive.median());
-        target(one_grid + " ÷ " + insertions, grids, true, 0.35);
+        auto against_call = [this](const std::string &call, const std::string &other) {
+            std::vector<double> ratios;
+            for (const Row &r : rows)
+                for (const Row &q : rows)
+                    if (r.call == call && q.call == other && r.set == q.set)
+                        ratios.push_back(r.archive.median() / q.archive.median());
+            return ratios;
+        };
+        target(one_grid + " ÷ " + insertions, against_call(one_grid, insertions), true, 0.35);
+        target(card_written + " ÷ " + one_report, against_call(card_written, one_report), true, 1);
         auto against_peer = [this](const std::string &call, const std::string &trials,
                                    bool uniform) {
             std::vector<double> ratios;

@@ -15,6 +15,7 @@ ta_answer rs_reduce(uint64_t *words, size_t len, uint64_t k, uint64_t rule, uint
                     size_t log_len);
 ta_answer rs_audit(const uint64_t *words, size_t len);
 ta_load_answer rs_card_load(uint64_t *words, size_t len, const uint8_t *card, size_t card_len);
+ta_answer rs_card_write(const uint64_t *words, size_t len, uint8_t *out, size_t out_len);
 ta_answer rs_report(const uint64_t *words, size_t len, uint8_t *out, size_t out_len);
 }
 

@@ -152,15 +152,16 @@ extern "C" {
 
 /*
  * Lengths: words of an archive with a capacity up to TA_MAX_CAPACITY, words of
- * the log of a reduction from count trials to k, bytes of a report on so many
- * trials. A k above the count needs no log, since ta_reduce refuses it; nor
- * does a negative k. TA_LOG_WORDS does not wrap: it is 0 for these, and
- * (size_t)-1 where a size_t cannot hold the length. It may evaluate its
- * arguments more than once.
+ * the log of a reduction from count trials to k, bytes of a card with so many
+ * trials, bytes of a report on so many. A k above the count needs no log, since
+ * ta_reduce refuses it; nor does a negative k. TA_LOG_WORDS does not wrap: it
+ * is 0 for these, and (size_t)-1 where a size_t cannot hold the length. It may
+ * evaluate its arguments more than once.
  */
 #define TA_WORDS(capacity) (8 + 5 * (size_t)(capacity))
 #define TA_LOG_WORDS(count, k) \
     TA_LOG_WORDS_OF((uint64_t)(count), (uint64_t)(count) - (uint64_t)(k))
+#define TA_CARD_BYTES(count) (33 * ((size_t)(count) + 1))
 #define TA_REPORT_BYTES(count) (53 * ((size_t)(count) + 1))
 
 /* TA_LOG_WORDS by the drops, which are more than the count where k is: the
@@ -221,7 +222,8 @@ enum {
     TA_NONE_HELD = 14,
     /* Card: a line not of the form; an empty card is line 1. */
     TA_CARD_FORM = 15,
-    /* Report: output shorter than 53 * (count + 1) bytes. */
+    /* Report: output shorter than 53 * (count + 1) bytes. Card-write: output
+       shorter than 33 * (count + 1) bytes. */
     TA_OUTPUT_SHORT = 16,
     /* Insert-grid: slice length not a multiple of four. Checked first. */
     TA_BAD_LENGTH = 17,
@@ -391,6 +393,22 @@ uint64_t ta_card_check(const uint8_t *card, size_t len);
  */
 ta_load_answer ta_card_load(uint64_t *words, size_t len,
                             const uint8_t *card, size_t card_len);
+
+/*
+ * Writes the archive's card, in the form told at ta_card_check: line 1, then a
+ * line for each trial, in archive order. The kept total and contributions do
+ * not show on a card, and no audit is asked. The value is the length in bytes,
+ * TA_CARD_BYTES(count); output bytes behind it stay unchanged. No zero byte is
+ * appended.
+ * ta_card_load accepts the card with any slice that is long enough, and gives
+ * the same capacity, reference and trials with everything counted anew; where
+ * ta_audit says yes, that restores every word before 8 + 5 * capacity. A card
+ * loaded and written is the same bytes exactly when its trials stood in archive
+ * order.
+ * Refusals: 1 to 3, 16.
+ */
+ta_answer ta_card_write(const uint64_t *words, size_t len,
+                        uint8_t *out, size_t out_len);
 
 /*
  * Writes the report: one line of count, rx, ry, rz (eight bytes each) and the

@@ -138,6 +138,16 @@ impl Archive {
         words::audit(&self.words)
     }
 
+    /// The card: a line of capacity and reference, then a line for each trial, in archive order.
+    /// [`Archive::load_card`] makes this archive of it again, with total, front and contributions
+    /// counted anew.
+    pub fn write_card(&self) -> Result<String, Refusal> {
+        let mut out = vec![0; words::card_needed(self.count())];
+        let length = words::write_card(&self.words, &mut out)?;
+        out.truncate(length as usize);
+        Ok(String::from_utf8(out).expect("a card has digits, spaces and line ends only"))
+    }
+
     /// The report: a line of count, reference and total, then a line for each trial.
     pub fn report(&self) -> Result<String, Refusal> {
         let mut out = vec![0; words::report_needed(self.count())];

@@ -22,6 +22,10 @@
 //!
 //! let dropped = archive.reduce(2)?;
 //! assert_eq!((dropped[0].number, dropped[0].contribution), (1, 4));
+//!
+//! let card = archive.write_card()?;
+//! assert_eq!(card.lines().nth(1), Some("       3       2       2       1"));
+//! assert_eq!(Archive::load_card(card.as_bytes()), Ok(archive));
 //! # Ok(())
 //! # }
 //! ```
@@ -42,6 +46,15 @@
 //! 1,048,576. 5: total. 6: how many trials are on the front. 7: zero. From word 8 come records of
 //! five words: trial number (1 to 9,999,999), x, y, z (each 0 to 1,048,576), contribution, in
 //! ascending order of z, then y, then x, then trial number. Words of unused records are zero.
+//!
+//! # Cards
+//!
+//! A card is text of 33 bytes a line: four decimal numbers, each right-justified behind spaces in
+//! eight bytes, and byte 10. Line 1: capacity and reference. Each further line: trial number, x, y,
+//! z. Total, front and contributions do not show on it; loading counts them anew. So the card that
+//! [`Archive::write_card`] gives loads to the same words where the audit says yes. A card that is
+//! loaded and written again has its trials in archive order, and is the same byte for byte exactly
+//! where they stood in that order.
 
 mod archive;
 mod refusal;

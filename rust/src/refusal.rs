@@ -41,7 +41,8 @@ pub enum Refusal {
     NoneHeld = 14,
     /// Card: a line not of the form; an empty card is line 1.
     CardForm = 15,
-    /// Report: output shorter than 53 × (count + 1) bytes.
+    /// Report: output shorter than 53 × (count + 1) bytes. Card-write: output shorter than
+    /// 33 × (count + 1) bytes.
     OutputShort = 16,
     /// Insert-grid: slice length not a multiple of four. Only the bare C interface can be given one.
     BadLength = 17,

@@ -98,5 +98,7 @@ extern "C" {
         card_len: usize,
     ) -> LoadAnswer;
 
+    pub fn ta_card_write(words: *const u64, len: usize, out: *mut u8, out_len: usize) -> Answer;
+
     pub fn ta_report(words: *const u64, len: usize, out: *mut u8, out_len: usize) -> Answer;
 }

@@ -17,6 +17,11 @@ pub const fn log_needed(count: usize, k: usize) -> usize {
     2 * count.saturating_sub(k)
 }
 
+/// The bytes that the card of `count` trials takes: 33 × (count + 1).
+pub const fn card_needed(count: usize) -> usize {
+    33 * (count + 1)
+}
+
 /// The bytes that the report on `count` trials takes: 53 × (count + 1).
 pub const fn report_needed(count: usize) -> usize {
     53 * (count + 1)
@@ -117,6 +122,14 @@ pub fn load_card(words: &mut [u64], card: &[u8]) -> Result<u64, CardRefusal> {
         unsafe { sys::ta_card_load(words.as_mut_ptr(), words.len(), card.as_ptr(), card.len()) };
     CardRefusal::check(answer.refusal, answer.line)?;
     Ok(answer.count)
+}
+
+/// Writes the card, its trials in archive order, and answers its length in bytes. No audit is
+/// asked: total, front and contributions do not show on a card.
+pub fn write_card(words: &[u64], out: &mut [u8]) -> Result<u64, Refusal> {
+    // SAFETY: pointers and lengths are those of two slices borrowed for the call, the second
+    // mutably, which therefore share no memory.
+    value(unsafe { sys::ta_card_write(words.as_ptr(), words.len(), out.as_mut_ptr(), out.len()) })
 }
 
 /// Writes the report and answers its length in bytes.

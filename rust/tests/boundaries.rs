@@ -1,20 +1,12 @@
 //! Every condition of the table at its boundary, from both sides. The refusal numbers here are
 //! the document's, not the reference's.
 
-use crate::lend::{compare, expect, Call};
-use crate::reference::book::Book;
+use crate::lend::{anything, compare, expect, Call};
+use crate::reference::book::{words_of, Book};
 use crate::reference::{Point, MAX_COORDINATE, MAX_NUMBER, MAX_REFERENCE};
 
 /// The trials of document 01's card.
 const TRIALS: [(u64, Point); 4] = [(1, [1, 2, 2]), (2, [2, 1, 2]), (3, [2, 2, 1]), (4, [1, 1, 3])];
-
-fn words_of(reference: Point, capacity: u64, trials: &[(u64, Point)]) -> Vec<u64> {
-    let mut book = Book::start(reference, capacity);
-    for &(number, point) in trials {
-        assert_eq!(book.insert(usize::MAX, number, point), 0);
-    }
-    book.fresh()
-}
 
 /// The archive of document 01's card, and three words behind it. In archive order the trials are
 /// 3, 2, 1, 4, with records from words 8, 13, 18 and 23; words 28 to 47 are unused.
@@ -38,6 +30,7 @@ fn calls() -> Vec<Call> {
         Call::ReplaceEffect { number: 4, point: [0, 3, 0] },
         Call::Share,
         Call::Audit,
+        Call::WriteCard { out: vec![88; 33 * 5 + 2] },
         Call::Report { out: vec![88; 53 * 5 + 2] },
     ]
 }
@@ -278,7 +271,6 @@ fn wide(narrow: u64) -> impl Iterator<Item = u64> {
 
 #[test]
 fn rows_of_start() {
-    let anything = |length: usize| vec![0x1234_5678_9abc_def0; length];
     for capacity in [1, 2, 511, 512] {
         let needed = 8 + 5 * capacity as usize;
         let start = Call::Start { reference: [4, 5, 6], capacity };
@@ -415,17 +407,47 @@ fn rows_of_remove_and_joint() {
 }
 
 #[test]
-fn rows_of_least_and_report() {
+fn rows_of_least() {
     expect(&Call::Least { rule: 0 }, &words_of([4, 4, 4], 1, &[]), 14);
     expect(&Call::Least { rule: 0 }, &words_of([4, 4, 4], 1, &TRIALS[..1]), 0);
+}
+
+/// Lines of so many bytes: row 16 just below a line and one for each trial, behind rows 1 to 3; no
+/// byte is written then, and none behind the last line ever.
+fn rows_of_output(line: usize, call: fn(Vec<u8>) -> Call) {
+    let (header, records) = (with(&[(7, 1)]), with(&[(8, 0)]));
     for count in 0..=4 {
         let words = words_of([4, 4, 4], 4, &TRIALS[..count]);
-        let exact = 53 * (count + 1);
+        let exact = line * (count + 1);
         for length in 0..exact + 4 {
-            let row = if length < exact { 16 } else { 0 };
-            expect(&Call::Report { out: vec![200; length] }, &words, row);
+            let (row, bytes) = if length < exact { (16, 0) } else { (0, exact) };
+            let call = call(vec![200; length]);
+            let outcome = expect(&call, &words, row);
+            assert_eq!(outcome.answer, [row, bytes as u64]);
+            assert!(outcome.out[..bytes].iter().all(|&byte| byte != 200));
+            assert!(outcome.out[bytes..].iter().all(|&byte| byte == 200));
+            for (lent, row) in [(&words[..7], 1), (&header[..], 2), (&records[..], 3)] {
+                expect(&call, lent, row);
+            }
         }
     }
+    let full = full_words();
+    let exact = line * 513;
+    for (length, row) in [(exact - 1, 16), (exact, 0), (exact + 1, 0)] {
+        expect(&call(vec![200; length]), &full, row);
+        expect(&call(vec![200; length]), &full[..full.len() - 1], 1);
+    }
+}
+
+#[test]
+fn rows_of_report() {
+    rows_of_output(53, |out| Call::Report { out });
+}
+
+/// Document 02, W-205: 33 bytes a line.
+#[test]
+fn rows_of_write_card() {
+    rows_of_output(33, |out| Call::WriteCard { out });
 }
 
 #[test]
@@ -537,7 +559,7 @@ fn row_13_of_insert_and_remove() {
 }
 
 /// 512 trials on a coarse grid; many numbers agree in their low 16 bits.
-fn full_words() -> Vec<u64> {
+pub fn full_words() -> Vec<u64> {
     let trials: Vec<(u64, Point)> = (0..512)
         .map(|i| (1 + 65_536 * (i % 150) + i / 150, [i % 7, i * i % 11, i * 5 % 13]))
         .collect();

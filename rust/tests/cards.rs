@@ -1,27 +1,14 @@
 //! Cards, good and damaged, checked and loaded.
 
-use crate::lend::{compare, expect, Call, Tally};
+use crate::lend::{anything, compare, expect, Call, Tally};
+use crate::reference::cards::{card, line};
 use crate::reference::{MAX_COORDINATE, MAX_NUMBER, MAX_REFERENCE};
 use crate::rng::{full_run, scenes, Rng};
 use trial_archive::check_card;
 
-fn line(fields: [u64; 4]) -> Vec<u8> {
-    let text: String = fields.iter().map(|field| format!("{field:8}")).collect();
-    format!("{text}\n").into_bytes()
-}
-
-fn card(lines: &[[u64; 4]]) -> Vec<u8> {
-    lines.iter().flat_map(|&fields| line(fields)).collect()
-}
-
 /// The card of document 01.
 fn example() -> Vec<u8> {
     card(&[[8, 4, 4, 4], [1, 1, 2, 2], [2, 2, 1, 2], [3, 2, 2, 1], [4, 1, 1, 3]])
-}
-
-/// Words that hold anything, to be loaded into.
-fn anything(length: usize) -> Vec<u64> {
-    (1..=length as u64).map(|i| i.wrapping_mul(0x0101_0101_0101_0101)).collect()
 }
 
 /// Checks the card and loads it into words that are long enough for a capacity of 8. Where they are

@@ -2,19 +2,11 @@
 //! itself, every row that can stop it, and full archives.
 
 use crate::lend::{self, expect, Call, Outcome};
-use crate::reference::book::Book;
-use crate::reference::{Point, MAX_COORDINATE, MAX_NUMBER, MAX_REFERENCE};
+use crate::reference::book::{words_of, Book};
+use crate::reference::{MAX_COORDINATE, MAX_NUMBER, MAX_REFERENCE};
 use crate::rng::{scenes, Rng};
 use crate::scenes::{foreign, Shape, Size};
 use trial_archive::{Archive, Filled, Refusal};
-
-fn words_of(trials: &[(u64, Point)], capacity: u64) -> Vec<u64> {
-    let mut book = Book::start([4, 4, 4], capacity);
-    for &(number, point) in trials {
-        assert_eq!(book.insert(usize::MAX, number, point), 0);
-    }
-    book.fresh()
-}
 
 fn grid(trials: &[[u64; 4]]) -> Call {
     Call::InsertGrid { grid: trials.concat() }
@@ -33,7 +25,7 @@ fn filled(words: &[u64], trials: &[[u64; 4]], inserted: u64, stop: u64) -> Outco
 /// Each row that stops a grid, at its first trial and behind others.
 #[test]
 fn every_stop() {
-    let words = words_of(&[(9, [1, 1, 1])], 4);
+    let words = words_of([4, 4, 4], 4, &[(9, [1, 1, 1])]);
     let (one, two) = ([1, 1, 2, 2], [2, 2, 1, 2]);
     let high = (1 << 32) + 1;
     for number in [0, MAX_NUMBER + 1, 1 << 32, high, u64::MAX] {
@@ -55,7 +47,7 @@ fn every_stop() {
     filled(&words, &[one, one], 1, 7);
     filled(&words, &[one, two, [3, 0, 0, 0], [3, 0, 0, 0]], 3, 7);
     filled(&words, &[one, two, [3, 0, 0, 0], [4, 0, 0, 0]], 3, 8);
-    let full = words_of(&[(9, [1, 1, 1])], 1);
+    let full = words_of([4, 4, 4], 1, &[(9, [1, 1, 1])]);
     filled(&full, &[one], 0, 8);
     filled(&full, &[[9, 1, 1, 1]], 0, 7);
 }
@@ -64,7 +56,7 @@ fn every_stop() {
 /// counted anew. At its first trial every word stays, a wrong word 6 too.
 #[test]
 fn row_13_in_the_midst() {
-    let mut words = words_of(&[(9, [3, 3, 3])], 4);
+    let mut words = words_of([4, 4, 4], 4, &[(9, [3, 3, 3])]);
     words[5] = 60;
     words[6] = 0;
     let outcome = filled(&words, &[[1, 4, 4, 4], [2, 0, 0, 0], [3, 4, 4, 4]], 1, 13);
@@ -77,7 +69,7 @@ fn row_13_in_the_midst() {
 /// Row 17 first, then rows 1 to 3, also for an empty grid.
 #[test]
 fn refusals_of_the_whole_grid() {
-    let words = words_of(&[(9, [1, 1, 1])], 4);
+    let words = words_of([4, 4, 4], 4, &[(9, [1, 1, 1])]);
     filled(&words, &[], 0, 0);
     let (mut header, mut records) = (words.clone(), words.clone());
     header[7] = 1;

@@ -35,6 +35,15 @@ impl History {
         assert_eq!(self.words[self.needed..], self.behind, "words behind the archive");
     }
 
+    /// The words' own card loads to them again.
+    fn check_card(&self) {
+        let mut card = vec![0; words::card_needed(self.book.trials().len())];
+        assert_eq!(words::write_card(&self.words, &mut card), Ok(card.len() as u64));
+        let mut again = vec![u64::MAX; self.needed];
+        assert_eq!(words::load_card(&mut again, &card), Ok(self.words[0]));
+        assert_eq!(again, self.words[..self.needed], "words loaded from their card");
+    }
+
     /// How many of the words the next call is lent.
     fn lent(&self, rng: &mut Rng) -> usize {
         if rng.chance(90) {
@@ -182,6 +191,7 @@ fn history(rng: &mut Rng, size: Size, calls: u64, every: u64) -> u64 {
     for at in 1..=calls {
         if rng.chance(2) {
             inserts = rng.pick(&[20, 50, 80, 95]);
+            history.check_card();
         }
         match rng.within(1..=100) {
             n if n <= inserts && rng.chance(8) => history.insert_grid(rng),
@@ -194,6 +204,7 @@ fn history(rng: &mut Rng, size: Size, calls: u64, every: u64) -> u64 {
         }
     }
     history.check_words();
+    history.check_card();
     calls
 }
 

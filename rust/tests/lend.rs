@@ -23,6 +23,7 @@ pub enum Call {
     Audit,
     Check { card: Vec<u8> },
     Load { card: Vec<u8> },
+    WriteCard { out: Vec<u8> },
     Report { out: Vec<u8> },
 }
 
@@ -42,6 +43,7 @@ impl Call {
             Call::Audit => "audit",
             Call::Check { .. } => "check",
             Call::Load { .. } => "load",
+            Call::WriteCard { .. } => "write_card",
             Call::Report { .. } => "report",
         }
     }
@@ -102,6 +104,11 @@ impl Call {
 fn fours(grid: &[u64]) -> Option<&[[u64; 4]]> {
     let (fours, rest) = grid.as_chunks();
     rest.is_empty().then_some(fours)
+}
+
+/// Words that hold anything, to be lent.
+pub fn anything(length: usize) -> Vec<u64> {
+    (1..=length as u64).map(|i| i.wrapping_mul(0x0101_0101_0101_0101)).collect()
 }
 
 /// The point in 32 bits, as far as it fits.
@@ -236,7 +243,7 @@ fn lists(call: &Call) -> (Vec<u64>, Vec<u8>, Vec<u8>) {
     match call {
         Call::Reduce { log, .. } => (log.clone(), Vec::new(), Vec::new()),
         Call::InsertGrid { grid } => (grid.clone(), Vec::new(), Vec::new()),
-        Call::Report { out } => (Vec::new(), out.clone(), Vec::new()),
+        Call::WriteCard { out } | Call::Report { out } => (Vec::new(), out.clone(), Vec::new()),
         Call::Check { card } | Call::Load { card } => (Vec::new(), Vec::new(), card.clone()),
         _ => (Vec::new(), Vec::new(), Vec::new()),
     }
@@ -272,6 +279,7 @@ fn by_reference(call: &Call, lent: &[u64]) -> Outcome {
             Ok(count) => vec![0, 0, count],
             Err((refusal, line)) => vec![refusal, line, 0],
         },
+        Call::WriteCard { .. } => double(cards::write(&words, &mut out)),
         Call::Report { .. } => double(calls::report(&words, &mut out)),
     };
     Outcome { answer, words, log, out, card }
@@ -375,6 +383,10 @@ fn by_c(call: &Call, lent: &[u64]) -> Outcome {
                 let answer = sys::ta_card_load(words.mut_ptr(), len, card.ptr(), card.len());
                 vec![answer.refusal, answer.line, answer.count]
             }
+            Call::WriteCard { .. } => {
+                let out_len = out.len();
+                fields(sys::ta_card_write(words.ptr(), len, out.mut_ptr(), out_len))
+            }
             Call::Report { .. } => {
                 let out_len = out.len();
                 fields(sys::ta_report(words.ptr(), len, out.mut_ptr(), out_len))
@@ -425,6 +437,7 @@ fn by_safe(call: &Call, lent: &[u64]) -> Outcome {
             Ok(count) => vec![0, 0, count],
             Err(CardRefusal { refusal, line }) => vec![refusal.number(), line, 0],
         },
+        Call::WriteCard { .. } => double(numbered(words::write_card(&memory, &mut out))),
         Call::Report { .. } => double(numbered(words::report(&memory, &mut out))),
     };
     Outcome { answer, words: memory, log, out, card }

@@ -17,3 +17,4 @@ mod rng;
 mod scenes;
 mod shares;
 mod wrapper;
+mod written;

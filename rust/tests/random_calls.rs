@@ -64,6 +64,7 @@ fn run(percent: u64, size: Size) {
     tally.covers("replace_effect", &[0, 1, 2, 3, 6, 9]);
     tally.covers("share", &[0, 1, 2, 3]);
     tally.covers("audit", &[0, 1, 2, 3]);
+    tally.covers("write_card", &[0, 1, 2, 3, 16]);
     tally.covers("report", &[0, 1, 2, 3, 16]);
     for call in ["start", "insert", "insert_grid", "gain", "replace_effect"] {
         tally.covers_wide(call);
@@ -79,6 +80,7 @@ fn run(percent: u64, size: Size) {
         "replace_effect",
         "share",
         "audit",
+        "write_card",
         "report",
     ];
     for call in all {

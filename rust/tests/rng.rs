@@ -42,6 +42,12 @@ impl Rng {
     pub fn index(&mut self, len: usize) -> usize {
         self.within(0..=len as u64 - 1) as usize
     }
+
+    pub fn shuffle<T>(&mut self, list: &mut [T]) {
+        for i in (1..list.len()).rev() {
+            list.swap(i, self.index(i + 1));
+        }
+    }
 }
 
 fn variable(name: &str) -> Option<u64> {

@@ -277,7 +277,7 @@ pub fn part(rng: &mut Rng, words: &[u64], needed: usize) -> usize {
 pub fn call(rng: &mut Rng, shape: &Shape, words: &[u64]) -> Call {
     let archive =
         calls::read(words).unwrap_or_else(|_| Archive::empty(shape.reference, shape.capacity));
-    match rng.within(0..=29) {
+    match rng.within(0..=31) {
         0..=6 => Call::Insert {
             number: number(rng, shape, &archive, 25),
             point: point(rng, shape, &archive),
@@ -294,8 +294,9 @@ pub fn call(rng: &mut Rng, shape: &Shape, words: &[u64]) -> Call {
         20 => Call::Share,
         21 => Call::Audit,
         22 => start(rng, shape),
-        23 | 24 => report(rng, &archive),
-        25..=27 => insert_grid(rng, shape, &archive),
+        23 | 24 => Call::WriteCard { out: output(rng, &archive, 33) },
+        25 | 26 => Call::Report { out: output(rng, &archive, 53) },
+        27..=29 => insert_grid(rng, shape, &archive),
         _ => replace_effect(rng, shape, &archive),
     }
 }
@@ -415,8 +416,9 @@ fn start(rng: &mut Rng, shape: &Shape) -> Call {
     Call::Start { reference, capacity }
 }
 
-fn report(rng: &mut Rng, archive: &Archive) -> Call {
-    let exact = 53 * (archive.count() + 1);
-    let length = rng.pick(&[exact, exact, exact + 1, exact + 60, exact - 1, exact - 53, 0]);
-    Call::Report { out: (0..length).map(|_| rng.next() as u8).collect() }
+/// An output for a line of so many bytes and one more for each trial, now and then too short.
+fn output(rng: &mut Rng, archive: &Archive, line: u64) -> Vec<u8> {
+    let exact = line * (archive.count() + 1);
+    let length = rng.pick(&[exact, exact, exact + 1, exact + 60, exact - 1, exact - line, 0]);
+    (0..length).map(|_| rng.next() as u8).collect()
 }

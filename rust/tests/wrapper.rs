@@ -36,6 +36,7 @@ fn a_loaded_card_is_its_insertions() {
     let card = b"       3       4       5       6\n       8       1       2       3\n";
     let mut archive = Archive::start([4, 5, 6], 3).unwrap();
     archive.insert(8, [1, 2, 3]).unwrap();
+    assert_eq!(archive.write_card().unwrap().as_bytes(), card);
     assert_eq!(Archive::load_card(card), Ok(archive));
     let refusal = Archive::load_card(&card[..40]).unwrap_err();
     assert_eq!((refusal.refusal, refusal.line), (Refusal::CardForm, 2));
@@ -47,11 +48,12 @@ fn words_kept_elsewhere() {
     archive.insert(1, [1, 1, 1]).unwrap();
     let mut words = archive.clone().into_words();
     words.extend([7, 7]);
-    assert_eq!(Archive::from_words(words.clone()), Ok(archive));
+    assert_eq!(Archive::from_words(words.clone()), Ok(archive.clone()));
     words[5] = 26;
     let mut foreign = Archive::from_words(words.clone()).unwrap();
     assert_eq!(foreign.audit(), Ok(false));
     assert_eq!(foreign.reduce(0), Err(Refusal::Miscount));
+    assert_eq!(foreign.write_card(), archive.write_card());
     words[9] = 1_048_577;
     assert_eq!(Archive::from_words(words.clone()), Err(Refusal::BadRecords));
     words[6] = 2;
@@ -71,6 +73,7 @@ fn reductions_that_drop_nothing_or_all() {
     assert_eq!(archive.reduce(0).unwrap().len(), 2);
     assert_eq!((archive.count(), archive.total()), (0, 0));
     assert_eq!(archive.report().unwrap(), "       0       4       4       4                   0\n");
+    assert_eq!(archive.write_card().unwrap(), "       2       4       4       4\n");
 }
 
 /// The lowest number goes by default, the highest where it is named.

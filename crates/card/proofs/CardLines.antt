@@ -15,13 +15,13 @@ use Rattle.text.specs.Fields.{field-from}
 use Rattle.text.specs.Lines.{Numbers, line, line-from}
 use Rattle.card.specs.Card.{line-count, lines-from, lines, due}
 
-lines-none : (bytes : List ℕ) → length bytes ≡ 0 → lines bytes ≡ []
+pub lines-none : (bytes : List ℕ) → length bytes ≡ 0 → lines bytes ≡ []
 unfolding lines lines-from line-count
 lines-none bytes e =
     let none : line-count bytes ≡ 0 = omega arith in
     ap (λ n. lines-from n bytes) none
 
-lines-more : (bytes : List ℕ) → 0 < length bytes → lines bytes ≡ line bytes ∷ lines (drop 33 bytes)
+pub lines-more : (bytes : List ℕ) → 0 < length bytes → lines bytes ≡ line bytes ∷ lines (drop 33 bytes)
 unfolding lines lines-from line-count
 lines-more bytes l =
     let one : line-count bytes ≡ suc (line-count (drop 33 bytes)) = omega (arith, length-drop 33 bytes) in

@@ -19,8 +19,9 @@ use Rattle.calls.specs.Lent.{start-rows}
 use Rattle.card.specs.Card.{shape-on, trial-on, line-count, lines-from, lines}
 use Rattle.card.specs.Verdict.{archive, in-turn, judge-further, judge, answer-of, words-of, carried-out}
 use Rattle.card.proofs.Judging.{loads}
-use Rattle.reports.specs.Report.{report-line, head-line, record-line, record-lines, report-text}
-use Rattle.reports.specs.Printed.{shown, loaded, printed}
+use Rattle.printing.specs.Texts.{lines-of}
+use Rattle.printing.specs.Printed.{shown, loaded, printed}
+use Rattle.reports.specs.Report.{report-line, head-line, record-line, report-text}
 use Rattle.reports.specs.Example.{example-card, example-report}
 
 -- The archive of the card.
@@ -47,7 +48,7 @@ unfolding judge judge-further in-turn start-rows shape-on trial-on lines lines-f
 judged-example = refl
 
 report-example : report-text example ≡ example-report
-unfolding report-text head-line record-lines record-line report-line justified digits pick example example-report
+unfolding report-text head-line lines-of record-line report-line justified digits pick example example-report
 report-example = refl
 
 loaded-example : loaded example-card ≡ carried-out (replicate 2568 0) (archive example)
@@ -58,10 +59,11 @@ loaded-example =
     ∙ ap (carried-out (replicate 2568 0)) judged-example
 
 -- The verdict's archive is what is shown.
-shown-archive : (before : List ℕ) (a : Archive) → shown (carried-out before (archive a) .answer .refusal) (carried-out before (archive a)) ≡ report-text a
+shown-archive : (before : List ℕ) (a : Archive)
+    → shown report-text (carried-out before (archive a) .answer .refusal) (carried-out before (archive a)) ≡ report-text a
 unfolding shown carried-out answer-of words-of
 shown-archive before a = ap report-text (read-layout a _)
 
-pub example-printed : printed example-card ≡ example-report
+pub example-printed : printed report-text example-card ≡ example-report
 unfolding printed
 example-printed = rw loaded-example (shown-archive (replicate 2568 0) example) ∙ report-example

@@ -1,5 +1,5 @@
--- Laws of reports that serve more than one module, and the theorems.
-pub mod Laid
+-- Laws of reports, and the theorems.
+pub mod Reporting
 pub mod ReadBack
 pub mod Examples
 pub mod Theorems

@@ -15,7 +15,8 @@ use Rattle.words.specs.Archive.{Row, Shape, Archive}
 use Rattle.words.specs.Layout.{read}
 use Rattle.words.specs.Format.{archive-rows, rows-allowed}
 use Rattle.words.proofs.Passed.{passed, Sound, ShapeBounds, shape-bounds, RowBounds, row-bounds, box-bound, coordinates-small}
-use Rattle.reports.specs.Report.{report-line, head-line, record-line, record-lines, report-text}
+use Rattle.printing.specs.Texts.{lines-of}
+use Rattle.reports.specs.Report.{report-line, head-line, record-line, report-text}
 use Rattle.reports.specs.Theorems.{ReportedAlike}
 
 -- A column, and what is behind it.
@@ -64,8 +65,8 @@ head-shown a s =
     record { first = omega arith; second = omega (arith, b .reference-high 0); third = omega (arith, b .reference-high 1); fourth = omega (arith, b .reference-high 2); last = lt-of-le-of-lt sum (lit< tt) }
 
 rows-back : (s t : Shape) → ShapeBounds s → ShapeBounds t → (rows others : List Row) → length rows ≡ length others
-    → rows-allowed s rows ≡ true → rows-allowed t others ≡ true → record-lines rows ≡ record-lines others → rows ≡ others
-unfolding rows-allowed record-lines record-line
+    → rows-allowed s rows ≡ true → rows-allowed t others ≡ true → lines-of record-line rows ≡ lines-of record-line others → rows ≡ others
+unfolding rows-allowed lines-of record-line
 rows-back s t b c [] [] long p q e = refl
 rows-back s t b c [] (r ∷ others) long p q e = absurd (let no′ : ⊥ = omega arith in no′)
 rows-back s t b c (r ∷ rows) [] long p q e = absurd (let no′ : ⊥ = omega arith in no′)

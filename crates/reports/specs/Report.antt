@@ -1,17 +1,14 @@
 -- The report (document 01, "Card and report").
-use Prim.Native.Nat.{ℕ, zero, suc, _+_, _*_, _≤_}
-use mathlib.Core.Path.{_≡_}
+use Prim.Native.Nat.{ℕ}
 use mathlib.Core.List.{List, _∷_, _++_, []}
-use lib.Dec.{ltb}
 use lib.ListN.{length}
-use Rattle.slices.specs.Put.{put}
 use Rattle.text.specs.Lines.{newline}
 use Rattle.text.specs.Justified.{justified}
 use Rattle.words.specs.Archive.{Row, Archive}
-use Rattle.words.specs.Layout.{word, read}
-use Rattle.words.specs.Format.{guard, archive-rows}
+use Rattle.words.specs.Layout.{read}
 use Rattle.calls.specs.declared.Answer.{Answer}
 use Rattle.calls.specs.Lent.{answer}
+use Rattle.printing.specs.Texts.{lines-of, text-rows, output}
 
 -- Four numbers of eight bytes each, one of twenty, "every line ended by byte 10"; "its numbers are justified as on a
 -- card".
@@ -27,32 +24,18 @@ head-line a = report-line (length (a .rows)) (a .shape .rx) (a .shape .ry) (a .s
 unfoldable pub record-line : Row → List ℕ
 record-line r = report-line (r .trial .number) (r .trial .x) (r .trial .y) (r .trial .z) (r .kept)
 
--- The records "in archive order".
-unfoldable pub record-lines : List Row → List ℕ
-record-lines [] = []
-record-lines (r ∷ rows) = record-line r ++ record-lines rows
-
+-- The report: the first line, and the lines of the records "in archive order".
 unfoldable pub report-text : Archive → List ℕ
-report-text a = head-line a ++ record-lines (a .rows)
+report-text a = head-line a ++ lines-of record-line (a .rows)
 
 -- Row 16: "output shorter than 53 × (count + 1) bytes".
 unfoldable pub report-rows : List ℕ → List ℕ → ℕ
-report-rows w out = archive-rows w (guard (ltb (length out) (53 * (length (read w .rows) + 1))) 16 0)
+report-rows w out = text-rows 53 w out
 
 -- "The report call answers its length in bytes."
 unfoldable pub report : List ℕ → List ℕ → Answer
 report w out = answer (report-rows w out) (length (report-text (read w)))
 
--- The output where a refusal is given (not 0); and where none is, with this text at its front: "output bytes behind that
--- length stay unchanged".
-unfoldable pub output : ℕ → List ℕ → List ℕ → List ℕ
-output zero text out = put out 0 text
-output (suc n) text out = out
-
+-- "Output bytes behind that length stay unchanged."
 unfoldable pub reported : List ℕ → List ℕ → List ℕ
 reported w out = output (report-rows w out) (report-text (read w)) out
-
--- What writing the lines of the records asks: rows 1 to 3 let the words pass, and the output has room.
-pub record ReportRoom (w out : List ℕ) : Type 0 where
-  pub passes : archive-rows w 0 ≡ 0
-  pub room : 53 * (word w 0 + 1) ≤ length out

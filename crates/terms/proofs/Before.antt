@@ -30,6 +30,7 @@ use Rattle.history.specs.Terms.{opened-by}
 use Rattle.history.proofs.Steps.{Holds}
 use Rattle.history.proofs.Histories.{started}
 use Rattle.history.proofs.Kept.{holds-just}
+use Rattle.printing.specs.Texts.{text-rows}
 use Rattle.reports.specs.Report
 use Rattle.reports.specs.Report.{report-rows}
 use Rattle.terms.specs.Loading.{no-numbers, numbers-on, card-shape, card-trials}
@@ -192,7 +193,7 @@ load-cited w card = go (lines card)
 -- "Every formerly accepted call answers as before."
 pub unchanged : Unchanged
 unfolding table-now table-before Lent.insert insert-by Lent.remove remove-by Lent.least least-by Lent.reduce reduce-by Lent.joint Lent.gain-answer
-    Lent.share Lent.audit asked-by Report.report Report.reported report-rows short-output Check.check check-by
+    Lent.share Lent.audit asked-by Report.report Report.reported report-rows text-rows short-output Check.check check-by
 unchanged =
     record {
       as-cited =

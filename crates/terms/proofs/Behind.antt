@@ -38,8 +38,11 @@ use Rattle.card.specs.Verdict.{judge, answer-of}
 use Rattle.card.proofs.Theorems.{load-answer, load-stays}
 use Rattle.history.proofs.Steps.{Deed, insert-deed, remove-deed, reduce-deed}
 use Rattle.history.proofs.Histories.{holds-front, holds-behind}
+use Rattle.printing.specs.Texts.{text-rows, output}
 use Rattle.reports.specs.Report
-use Rattle.reports.specs.Report.{report-text, report-rows, output, reported}
+use Rattle.reports.specs.Report.{report-text, report-rows, reported}
+use Rattle.writing.specs.Written
+use Rattle.writing.specs.Written.{card-text, write-rows}
 use Rattle.terms.specs.Loading.{no-numbers, numbers-on, card-shape}
 use Rattle.terms.specs.Behind.{sides, ArchiveCall, written, only-read, result, capacity-for, reach, DoneAlike, WordsBehind}
 use Rattle.terms.proofs.Loading.{card-begun}
@@ -70,6 +73,15 @@ answers-alike : (rows value : Archive → ℕ) (v w : List ℕ) → Alike (exten
     → answer (archive-rows v (rows (read v))) (value (read v)) ≡ answer (archive-rows w (rows (read w))) (value (read w))
 unfolding answer
 answers-alike rows value v w h = question rows (λ k a. answer k (value a)) (λ n a b. refl) v w h
+
+-- Texts of an archive: what is answered, and the output.
+texts-alike : (bytes : ℕ) (text : Archive → List ℕ) (out v w : List ℕ) → Alike (extent (word v 1)) v w
+    → (answer (text-rows bytes v out) (length (text (read v))) ≡ answer (text-rows bytes w out) (length (text (read w))))
+    × (output (text-rows bytes v out) (text (read v)) out ≡ output (text-rows bytes w out) (text (read w)) out)
+unfolding text-rows output
+texts-alike bytes text out v w h =
+    let rows : Archive → ℕ = λ a. guard (ltb (length out) (bytes * (length (a .rows) + 1))) 16 0 in
+    (answers-alike rows (λ a. length (text a)) v w h, question rows (λ n a. output n (text a) out) (λ n a b. refl) v w h)
 
 -- Two outcomes that are alike before a place.
 record LeftAlike (e : ℕ) (o p : Outcome) : Type 0 where
@@ -260,7 +272,7 @@ abbrev as-numbers : Answer → List ℕ
 as-numbers a = a .refusal ∷ a .value ∷ []
 
 long-alike : (c : ArchiveCall) (v w : List ℕ) → Alike (reach c v) v w → DoneAlike c v w
-unfolding reach capacity-for extent result only-read Lent.insert Lent.remove Lent.reduce Lent.least Lent.joint Lent.gain-answer Lent.share Lent.audit Replacement.replace-effect change Report.report reported report-rows least-answer output
+unfolding reach capacity-for extent result only-read Lent.insert Lent.remove Lent.reduce Lent.least Lent.joint Lent.gain-answer Lent.share Lent.audit Replacement.replace-effect change Report.report reported report-rows Written.write Written.written write-rows least-answer
 long-alike (ArchiveCall.start s) v w h =
     outcomes-alike _ v w _ _ refl refl (start-alike s v w h)
 long-alike (ArchiveCall.insert t) v w h =
@@ -297,13 +309,11 @@ long-alike (ArchiveCall.load card) v w h =
       other = refl;
     }
 long-alike (ArchiveCall.report out) v w h =
-    let rows : Archive → ℕ = λ a. guard (ltb (length out) (53 * (length (a .rows) + 1))) 16 0 in
-    let same = answers-alike rows (λ a. length (report-text a)) v w h in
-    record {
-      answer = ap as-numbers same;
-      words = h .same;
-      other = question rows (λ n a. output n (report-text a) out) (λ n a b. refl) v w h;
-    }
+    let same = texts-alike 53 report-text out v w h in
+    record { answer = ap as-numbers (same .0); words = h .same; other = same .1 }
+long-alike (ArchiveCall.write-card out) v w h =
+    let same = texts-alike 33 card-text out v w h in
+    record { answer = ap as-numbers (same .0); words = h .same; other = same .1 }
 
 -- Slices that agree are both long enough, or are equal.
 not-read : (c : ArchiveCall) (v w : List ℕ) → take (reach c v) v ≡ take (reach c v) w → DoneAlike c v w
@@ -334,6 +344,7 @@ not-written ArchiveCall.share w = refl
 not-written ArchiveCall.audit w = refl
 not-written (ArchiveCall.load card) w = load-behind w card
 not-written (ArchiveCall.report out) w = refl
+not-written (ArchiveCall.write-card out) w = refl
 
 -- "Words from 8 + 5 × capacity on are neither read nor written."
 pub words-behind : WordsBehind

@@ -23,8 +23,9 @@ use Rattle.card.specs.Card
 use Rattle.card.specs.Card.{trial-on, lines, by-form, first-line, Loading, refused, accepted, judged}
 use Rattle.card.specs.Check
 use Rattle.card.specs.Check.{packed}
+use Rattle.printing.specs.Texts.{output}
 use Rattle.reports.specs.Report
-use Rattle.reports.specs.Report.{report-text, output}
+use Rattle.reports.specs.Report.{report-text}
 use Rattle.terms.specs.Loading.{card-shape, card-trials}
 
 -- The condition of rows 3 and 6 as it was: "coordinates run from 0 to the reference on that axis, both allowed".

@@ -15,6 +15,7 @@ use Rattle.calls.specs.Replacement
 use Rattle.card.specs.Card
 use Rattle.reports.specs.Report
 use Rattle.reports.specs.Report.{reported}
+use Rattle.writing.specs.Written
 use Rattle.terms.specs.Loading.{card-shape}
 
 -- A call that is lent an archive slice, with its arguments; of another lent slice the words or bytes that it holds.
@@ -32,6 +33,7 @@ pub data ArchiveCall : Type 0 where
   audit : ArchiveCall
   load : (card : List ℕ) → ArchiveCall
   report : (out : List ℕ) → ArchiveCall
+  write-card : (out : List ℕ) → ArchiveCall
 
 -- All that comes of a call: what it answers, the refusal number first; the archive slice after it; and the log or the
 -- output after it.
@@ -94,6 +96,12 @@ result (report out) w =
       words = w;
       other = reported w out;
     }
+result (write-card out) w =
+    record {
+      answer = Written.write w out .refusal ∷ Written.write w out .value ∷ [];
+      words = w;
+      other = Written.written w out;
+    }
 
 -- The capacity that a call goes by: word 1; for start and the card reader "the capacity given".
 unfoldable pub capacity-for : ArchiveCall → List ℕ → ℕ
@@ -110,6 +118,7 @@ capacity-for share w = word w 1
 capacity-for audit w = word w 1
 capacity-for (load card) w = card-shape card .capacity
 capacity-for (report out) w = word w 1
+capacity-for (write-card out) w = word w 1
 
 -- Where the words behind begin.
 unfoldable pub reach : ArchiveCall → List ℕ → ℕ

@@ -8,7 +8,7 @@ use native.Mathlib.Nat.{add-zero}
 use native.Mathlib.Decide.{decLe}
 use native.Mathlib.Omega.{arith}
 use lib.Dec.{eqb, lit≤}
-use lib.ListN.{length, take, drop, getD, length-drop, take-append-drop, List·getD-eq-default}
+use lib.ListN.{length, take, drop, getD, length-append, length-drop, take-append-drop, List·getD-eq-default}
 use lib.Seq.{drop-drop, getD-drop, take-at, drop-cons, drop-append-add, getD-append-add, length-take-le}
 use borrow.Author.Tests.{eqb-true, eqb-false, eq-eqb, ne-eqb}
 use Rattle.slices.specs.Choices.{pick}
@@ -76,6 +76,10 @@ module _ (n : ℕ) (rest : List ℕ) where
 
   behind-byte : (k : ℕ) → getD (justified 8 n ++ rest) (8 + k) 0 ≡ getD rest k 0
   behind-byte k = rw (length-justified 8 n) at (getD-append-add (justified 8 n) rest k 0)
+
+pub length-line-of : (v : Numbers) → length (line-of v) ≡ 33
+unfolding line-of
+length-line-of v = simp (length-append, length-justified)
 
 line-of-append : (v : Numbers) (rest : List ℕ)
     → line-of v ++ rest

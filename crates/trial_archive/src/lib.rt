@@ -12,6 +12,7 @@ ghost use Rattle.calls.specs.Replacement.{replace-effect};
 ghost use Rattle.card.specs.Card.{load};
 ghost use Rattle.card.specs.Check.{check};
 ghost use Rattle.reports.specs.Report.{report, reported};
+ghost use Rattle.writing.specs.Written.{write, written};
 
 #[no_mangle]
 pub extern "C" fn ta_start(words: &mut [u64], rx: u64, ry: u64, rz: u64, capacity: u64) -> u64
@@ -109,4 +110,11 @@ pub extern "C" fn ta_report(words: &[u64], out: &mut [u8]) -> Answer
     ensures { λ r. ⌜ (r ≡ report (now (words .entry)) (now (out .entry))) × (now (out .exit) ≡ reported (now (words .entry)) (now (out .entry))) ⌝ }
 {
     reports::report(words, out)
+}
+
+#[no_mangle]
+pub extern "C" fn ta_card_write(words: &[u64], out: &mut [u8]) -> Answer
+    ensures { λ r. ⌜ (r ≡ write (now (words .entry)) (now (out .entry))) × (now (out .exit) ≡ written (now (words .entry)) (now (out .entry))) ⌝ }
+{
+    writing::write(words, out)
 }

@@ -116,3 +116,12 @@ impl Book {
         self.trials.iter().map(|t| t.1).collect()
     }
 }
+
+/// The words of a fresh archive of these trials, all of which it takes.
+pub fn words_of(reference: Point, capacity: u64, trials: &[(u64, Point)]) -> Vec<u64> {
+    let mut book = Book::start(reference, capacity);
+    for &(number, point) in trials {
+        assert_eq!(book.insert(usize::MAX, number, point), 0);
+    }
+    book.fresh()
+}

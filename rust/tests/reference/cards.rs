@@ -1,6 +1,7 @@
-//! Cards, written from document 01's section "Card and report".
+//! Cards, written from document 01's section "Card and report" and document 02's W-205.
 
-use super::calls::{capacity_allowed, reference_allowed, Archive};
+use super::calls::{self, capacity_allowed, reference_allowed, Archive};
+use super::Point;
 
 /// A refusal number and the card line that it is for.
 pub type Refused = (u64, u64);
@@ -12,7 +13,8 @@ fn field(bytes: &[u8]) -> Option<u64> {
     (format!("{number:8}") == text).then_some(number)
 }
 
-fn fields(line: &[u8]) -> Option<[u64; 4]> {
+/// The numbers of a line.
+pub fn fields(line: &[u8]) -> Option<[u64; 4]> {
     if line.len() != 33 || line[32] != 10 {
         return None;
     }
@@ -52,4 +54,34 @@ pub fn load(words: &mut [u64], card: &[u8]) -> Result<u64, Refused> {
     let own = archive.words();
     words[..own.len()].copy_from_slice(&own);
     Ok(archive.count())
+}
+
+/// Four numbers right-justified behind spaces in eight bytes each, a line end.
+pub fn line(fields: [u64; 4]) -> Vec<u8> {
+    let text: String = fields.iter().map(|field| format!("{field:8}")).collect();
+    format!("{text}\n").into_bytes()
+}
+
+pub fn card(lines: &[[u64; 4]]) -> Vec<u8> {
+    lines.iter().flat_map(|&fields| line(fields)).collect()
+}
+
+/// What stands on an archive's card: capacity and reference, then the trials as they are held.
+pub fn lines(archive: &Archive) -> Vec<[u64; 4]> {
+    let line = |first, [x, y, z]: Point| [first, x, y, z];
+    let trials = archive.records.iter().map(|r| line(r.number, r.point));
+    [line(archive.capacity, archive.reference)].into_iter().chain(trials).collect()
+}
+
+/// Puts the trials of a card in archive order: ascending z, then y, then x, then number.
+pub fn in_order(lines: &mut [[u64; 4]]) {
+    lines[1..].sort_by_key(|&[number, x, y, z]| [z, y, x, number]);
+}
+
+/// The length in bytes. Rows 1 to 3, then 16; no audit is asked.
+pub fn write(words: &[u64], out: &mut [u8]) -> Result<u64, u64> {
+    let card = card(&lines(&calls::read(words)?));
+    let place = out.get_mut(..card.len()).ok_or(16_u64)?;
+    place.copy_from_slice(&card);
+    Ok(card.len() as u64)
 }

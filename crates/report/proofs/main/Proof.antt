@@ -32,16 +32,16 @@ slice-aggregate-print-2 : tie.Need-slice-aggregate-print-2
 slice-aggregate-print-2 c = search needs
 
 print-requires : tie.Need-print-requires
-print-requires c κs = record { lines = omega arith; bytes = rw (c .before .before .before .read .given .1) at (c .before .before .before .before .before .before .read-card .ensures); report = omega arith }
+print-requires c κs = record { lines = omega arith; filled = rw (c .before .before .before .read .given .1) at (c .before .before .before .before .before .before .read-card .ensures); text = omega arith }
 
 array-share-prefix-out : tie.Need-array-share-prefix-out
 array-share-prefix-out c = search needs
 
-slice-aggregate-write-report : tie.Need-slice-aggregate-write-report
-slice-aggregate-write-report c = search needs
+slice-aggregate-write-text : tie.Need-slice-aggregate-write-text
+slice-aggregate-write-text c = search needs
 
-write-report-requires : tie.Need-write-report-requires
-write-report-requires c κs = search needs
+write-text-requires : tie.Need-write-text-requires
+write-text-requires c κs = search needs
 
 slice-aggregate-fail-2 : tie.Need-slice-aggregate-fail-2
 slice-aggregate-fail-2 c = search needs
@@ -70,8 +70,8 @@ main-spec =
     slice-aggregate-print-2
     print-requires
     array-share-prefix-out
-    slice-aggregate-write-report
-    write-report-requires
+    slice-aggregate-write-text
+    write-text-requires
     slice-aggregate-fail-2
     fail-requires-2
     returns-2

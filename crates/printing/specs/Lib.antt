@@ -1,0 +1,5 @@
+-- Texts of an archive, and what a program prints of a card: document 01, "Card and report". Read Texts, then Printed. Forms is for the
+-- contracts of inner functions.
+pub mod Texts
+pub mod Printed
+pub mod Forms

@@ -1,2 +1,0 @@
--- What the contracts of the report program cite.
-pub mod Read

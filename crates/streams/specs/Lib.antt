@@ -1,0 +1,2 @@
+-- What the contracts of reading and writing cite.
+pub mod Read

@@ -1,0 +1,2 @@
+-- Laws of cards written back.
+pub mod Writing

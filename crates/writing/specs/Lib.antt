@@ -1,0 +1,2 @@
+-- Cards written back: document 02, W-205.
+pub mod Written
