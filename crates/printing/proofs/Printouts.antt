@@ -12,7 +12,9 @@ use Rattle.text.proofs.Justified.{length-justified}
 use Rattle.words.specs.Archive.{Archive}
 use Rattle.words.specs.Layout.{word, extent, read}
 use Rattle.words.proofs.Reading.{read-layout}
+use Rattle.words.specs.Format.{archive-rows}
 use Rattle.calls.specs.declared.Answer.{Answer}
+use Rattle.calls.proofs.Known.{count-rows, known}
 use Rattle.card.specs.declared.Loaded.{Loaded}
 use Rattle.card.specs.Card.{lines, Loading, load, ReadInto}
 use Rattle.card.specs.Verdict.{Verdict, refusal, archive, judge, answer-of, words-of, carried-out}
@@ -23,7 +25,7 @@ use Rattle.card.proofs.Theorems.{not-zero, cards-load}
 use Rattle.printing.specs.Printed.{refusal-line, shown, loaded, printed, PrintRoom, PrintsRead, Printing}
 use Rattle.printing.specs.Forms.{text-of}
 use Rattle.printing.proofs.Laid.{Laid, laid-column, laid-byte}
-use Rattle.printing.proofs.Texts.{Writable, writable, Told, text-done, length-text}
+use Rattle.printing.proofs.Texts.{Told, text-done, length-text}
 
 length-refusal-line : (n line : ℕ) → length (refusal-line n line) ≡ 17
 unfolding refusal-line
@@ -96,10 +98,8 @@ module _ (text : Archive → List ℕ) where
     unfolding shown
     shown-text none = printed-by ∙ ap (λ k. shown text k (load p card)) none ∙ ap (λ w. text (read w)) (sym (into .words none))
 
-    passing : r .refusal ≡ 0 → Writable after
-    passing none =
-        let accepted′ = cards-load p card .accepted (ap (λ x. x .refusal) (sym (into .answer)) ∙ none) in
-        writable after (sym (rw (← into .words none) at (accepted′ .passes))) refl
+    passing : r .refusal ≡ 0 → archive-rows after 0 ≡ 0
+    passing none = rw (into .words none) (cards-load p card .accepted (ap (λ x. x .refusal) (sym (into .answer)) ∙ none) .passes)
 
 -- The two ends of a program's run: the line of a refused card, and the text of an accepted one.
 module _ (first wide : ℕ) (input : List ℕ) (read-bytes : ℕ) (out p : List ℕ) (room : PrintRoom (33 + wide) input read-bytes out)
@@ -114,15 +114,15 @@ module _ (first wide : ℕ) (input : List ℕ) (read-bytes : ℕ) (out p : List 
   pub print-text : {a : Answer} {out′ : List ℕ} → r .refusal ≡ 0 → length out′ ≡ length out → Told first wide after out a out′
       → PrintsRead (text-of first wide) input read-bytes out (a .value) out′
   print-text {a} {out′} none same told =
-      let h : Writable after = passing (text-of first wide) p _ sized into none in
-      let few : word after 0 ≤ 512 = h .few in
+      let h : archive-rows after 0 ≡ 0 = passing (text-of first wide) p _ sized into none in
+      let few : word after 0 ≤ 512 = known after h .few in
       let space : (33 + wide) * 513 ≤ length out = room .text in
       let most : (33 + wide) * (word after 0 + 1) ≤ (33 + wide) * 513 = mul-le-mul-left (33 + wide) (omega arith) in
       let enough : (33 + wide) * (word after 0 + 1) ≤ length out = omega arith in
       let done = text-done first wide after out h enough in
       let value : a .value ≡ length (text-of first wide (read after)) = ap (λ x. x .value) (told .0 ∙ sym (done .0)) in
       let long : length (text-of first wide (read after)) ≡ (33 + wide) * (word after 0 + 1) =
-      length-text first wide (read after) ∙ ap (λ n. (33 + wide) * (n + 1)) (h .count) in
+      length-text first wide (read after) ∙ ap (λ n. (33 + wide) * (n + 1)) (count-rows after) in
       prints-read (text-of first wide) input read-bytes out (text-of first wide (read after)) (a .value) (room .lines)
       (shown-text (text-of first wide) p _ sized into none) (told .1 ∙ sym (done .1)) (sym value) (omega arith) same
 

@@ -8,7 +8,7 @@ use native.Mathlib.Nat.{zero-add, add-assoc, mul-suc, mul-zero, mul-le-mul, mul-
 use native.Mathlib.Numerals.{add-one}
 use native.Mathlib.Omega.{arith}
 use lib.Dec.{ltb, lit≤}
-use lib.ListN.{length, getD, drop, set, length-append}
+use lib.ListN.{length, getD, set, length-append}
 use lib.Seq.{getD-take}
 use borrow.Author.Tests.{lt-ltb, le-ltb}
 use Rattle.slices.specs.Put.{put}
@@ -20,30 +20,15 @@ use Rattle.words.specs.Archive.{Row, Archive, reference}
 use Rattle.words.specs.Layout.{header, word, read, read-shape, read-rows}
 use Rattle.words.specs.Format.{guard, archive-rows}
 use Rattle.words.specs.Places.{as-trial, row-at, rows-before}
-use Rattle.words.proofs.Reading.{length-read-rows, header-read}
-use Rattle.words.proofs.Passed.{Passed, passed, header-facts, unrefused, passes-again, still-refused}
+use Rattle.words.proofs.Reading.{header-read}
+use Rattle.words.proofs.Passed.{passed, header-facts, unrefused, passes-again, still-refused}
 use Rattle.words.proofs.Places.{rows-before-more}
 use Rattle.calls.specs.declared.Answer.{Answer}
 use Rattle.calls.specs.Lent.{answer}
+use Rattle.calls.proofs.Known.{count-rows, known}
 use Rattle.printing.specs.Texts.{lines-of, text-rows, output}
 use Rattle.printing.specs.Forms.{text-line, text-row, text-of, LastColumn, TextForm, TextRoom}
 use Rattle.printing.proofs.Laid.{Laid, laid-more, laid-column, laid-byte}
-
--- What passing rows 1 to 3 tells of the words that a text is made of.
-pub record Writable (w : List ℕ) : Type 0 where
-  pub passes : archive-rows w 0 ≡ 0
-  pub held : 8 + 5 * word w 0 ≤ length w
-  pub few : word w 0 ≤ 512
-  pub count : length (read w .rows) ≡ word w 0
-
-pub writable : (w : List ℕ) {k : ℕ} → k ≡ archive-rows w 0 → k ≡ 0 → Writable w
-unfolding read read-shape
-writable w e none =
-    let p : Passed w = passed w (sym e ∙ none) in
-    let long : 8 + 5 * word w 1 ≤ length w = p .long in
-    let counted : word w 0 ≤ word w 1 = p .counted in
-    let most : word w 1 ≤ 512 = p .bounds .capacity-high in
-    record { passes = sym e ∙ none; held = omega arith; few = omega arith; count = length-read-rows (word w 0) (drop 8 w) }
 
 -- The two forms.
 pub card-form : (first : ℕ) → first < 8 → TextForm first 0
@@ -188,16 +173,16 @@ module _ (first wide : ℕ) where
   told-row w out {k} e some = told-refused w out k (still-refused w _ (λ z. some (e ∙ z)) ∙ sym e) some
 
   -- Row 16, and the text, on words that have passed.
-  text-rows-passed : (w out : List ℕ) → Writable w → text-rows (33 + wide) w out ≡ guard (ltb (length out) ((33 + wide) * (word w 0 + 1))) 16 0
+  text-rows-passed : (w out : List ℕ) → archive-rows w 0 ≡ 0 → text-rows (33 + wide) w out ≡ guard (ltb (length out) ((33 + wide) * (word w 0 + 1))) 16 0
   unfolding text-rows
-  text-rows-passed w out p = passes-again w _ (passed w (p .passes)) ∙ (rw (p .count))
+  text-rows-passed w out p = passes-again w _ (passed w p) ∙ (rw (count-rows w))
 
-  pub told-short : (w out : List ℕ) → Writable w → length out < (33 + wide) * (word w 0 + 1) → Told w out (record { refusal = 16; value = 0 }) out
+  pub told-short : (w out : List ℕ) → archive-rows w 0 ≡ 0 → length out < (33 + wide) * (word w 0 + 1) → Told w out (record { refusal = 16; value = 0 }) out
   unfolding guard
   told-short w out p short =
       told-refused w out 16 (text-rows-passed w out p ∙ (rw (lt-ltb (length out) ((33 + wide) * (word w 0 + 1)) short))) (λ e. omega arith)
 
-  pub text-done : (w out : List ℕ) → Writable w → (33 + wide) * (word w 0 + 1) ≤ length out
+  pub text-done : (w out : List ℕ) → archive-rows w 0 ≡ 0 → (33 + wide) * (word w 0 + 1) ≤ length out
       → Told w out (record { refusal = 0; value = length (text-of first wide (read w)) }) (put out 0 (text-of first wide (read w)))
   unfolding guard answer output
   text-done w out p room =
@@ -211,20 +196,20 @@ module _ (first wide : ℕ) where
       ∙ omega (arith, length-text-line wide (word (header a) first) (a .shape .rx) (a .shape .ry) (a .shape .rz) (a .sum), length-rows wide (a .rows), line-more wide (length (a .rows)))
 
   -- The bytes that are asked for and answered fit a word.
-  pub bytes-few : (w : List ℕ) → TextForm first wide → Writable w → (33 + wide) * (word w 0 + 1) ≤ 53 * 513
+  pub bytes-few : (w : List ℕ) → TextForm first wide → archive-rows w 0 ≡ 0 → (33 + wide) * (word w 0 + 1) ≤ 53 * 513
   bytes-few w f h =
       let narrow : wide ≤ 20 = f .column .narrow in
-      let few : word w 0 ≤ 512 = h .few in
+      let few : word w 0 ≤ 512 = known w h .few in
       mul-le-mul (let l : 33 + wide ≤ 53 = omega arith in l) (let l : word w 0 + 1 ≤ 513 = omega arith in l)
 
   -- The header's word, and the reference, as the first line has them.
-  header-word : (w : List ℕ) → TextForm first wide → Writable w → word (header (read w)) first ≡ word w first
+  header-word : (w : List ℕ) → TextForm first wide → archive-rows w 0 ≡ 0 → word (header (read w)) first ≡ word w first
   header-word w f h =
-      let long : 8 + 5 * word w 0 ≤ length w = h .held in
-      ap (λ l. word l first) (header-read w (omega arith) (header-facts w (unrefused w 0 (h .passes) .headed) .seven)) ∙ getD-take 8 w first 0 (f .header)
+      let long : 8 + 5 * word w 0 ≤ length w = known w h .records-long in
+      ap (λ l. word l first) (header-read w (omega arith) (header-facts w (unrefused w 0 h .headed) .seven)) ∙ getD-take 8 w first 0 (f .header)
 
   -- The first line, and the lines of the records behind it.
-  pub told-text : (w out p : List ℕ) {out₁ out₂ : List ℕ} → TextForm first wide → Writable w → (33 + wide) * (word w 0 + 1) ≤ length out
+  pub told-text : (w out p : List ℕ) {out₁ out₂ : List ℕ} → TextForm first wide → archive-rows w 0 ≡ 0 → (33 + wide) * (word w 0 + 1) ≤ length out
       → p ≡ reference (read-shape w)
       → out₁ ≡ put out 0 (text-row wide (record { trial = as-trial (word w first) p; kept = word w 5 }))
       → out₂ ≡ put out₁ (33 + wide) (lines-of (text-row wide) (read w .rows))
@@ -235,7 +220,7 @@ module _ (first wide : ℕ) where
       let head : List ℕ = text-line wide (word (header a) first) (a .shape .rx) (a .shape .ry) (a .shape .rz) (a .sum) in
       let lines : List ℕ = lines-of (text-row wide) (a .rows) in
       let said : head ≡ text-line wide (word w first) (getD p 0 0) (getD p 1 0) (getD p 2 0) (word w 5) = (rw (is, header-word w f h)) in
-      let count : length (a .rows) ≡ word w 0 = h .count in
+      let count : length (a .rows) ≡ word w 0 = count-rows w in
       let all : (33 + wide) * (word w 0 + 1) ≡ (33 + wide) * word w 0 + (33 + wide) = line-more wide (word w 0) in
       let many : length lines ≡ (33 + wide) * word w 0 = length-rows wide (a .rows) ∙ ap (λ n. (33 + wide) * n) count in
       let one : Laid out 0 head (33 + wide) out₁ = record { long = length-text-line wide _ _ _ _ _; is = rw said e₁ } in

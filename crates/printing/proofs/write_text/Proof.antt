@@ -1,14 +1,16 @@
 -- `printing::write_text` meets its contract: rows 1 to 3, row 16, or the text.
-use mathlib.Core.Path.{_∙_}
+use mathlib.Core.Path.{_≡_, sym, _∙_}
 use native.Mathlib.Omega.{arith}
 use denote.Ref.{now}
-use Rattle.printing.proofs.Texts.{Writable, writable, told-row, told-short, bytes-few, told-text}
+use Rattle.words.specs.Format.{archive-rows}
+use Rattle.calls.proofs.Known.{known}
+use Rattle.printing.proofs.Texts.{told-row, told-short, bytes-few, told-text}
 use borrow.Author.Needs.{needs}
 use Rattle.printing.proofs.write_text.Statement.{statement}
 use Rattle.printing.proofs.write_text.Tie as tie
 
-passing : (c : tie.Else1) → Writable (now (c .before .before .before .before .args .w))
-passing c = writable _ (c .before .refusal .ensures) (c .if1 .left)
+passing : (c : tie.Else1) → archive-rows (now (c .before .before .before .before .args .w)) 0 ≡ 0
+passing c = sym (c .before .refusal .ensures) ∙ c .if1 .left
 
 refusal-requires : tie.Need-refusal-requires
 refusal-requires c κs = search needs
@@ -25,10 +27,10 @@ add-bytes : tie.Need-add-bytes
 add-bytes c = search needs
 
 shared-slice-read-bytes : tie.Need-shared-slice-read-bytes
-shared-slice-read-bytes c = omega (arith, passing (c .before))
+shared-slice-read-bytes c = omega (arith, known _ (passing (c .before)))
 
 add-bytes-2 : tie.Need-add-bytes-2
-add-bytes-2 c = omega (arith, passing (c .before))
+add-bytes-2 c = omega (arith, known _ (passing (c .before)))
 
 mul-bytes : tie.Need-mul-bytes
 mul-bytes c = omega (arith, bytes-few _ _ _ (c .before .before .before .before .before .pre) (passing (c .before)))
@@ -45,13 +47,13 @@ mul-t14 : tie.Need-mul-t14
 mul-t14 c = search needs
 
 shared-slice-read-t12 : tie.Need-shared-slice-read-t12
-shared-slice-read-t12 c = omega (arith, passing (c .before .before .before), c .before .before .before .before .before .before .before .pre .header)
+shared-slice-read-t12 c = omega (arith, known _ (passing (c .before .before .before)), c .before .before .before .before .before .before .before .pre .header)
 
 reference-of-requires : tie.Need-reference-of-requires
 reference-of-requires c κs = search needs
 
 shared-slice-read-t9 : tie.Need-shared-slice-read-t9
-shared-slice-read-t9 c = omega (arith, passing (c .before .before .before .before .before))
+shared-slice-read-t9 c = omega (arith, known _ (passing (c .before .before .before .before .before)))
 
 put-line-requires : tie.Need-put-line-requires
 put-line-requires c κs = search needs
