@@ -100,19 +100,17 @@ void card_load(const Library &l, State &s, const Case &c)
     s.value = answer.count;
 }
 
-void card_write(const Library &l, State &s, const Case &)
+// What is written of the archive, by the call for a card or for a report.
+void write_by(decltype(&ta_report) call, State &s)
 {
-    ta_answer answer = l.card_write(s.words.data(), s.words.size(), s.out.data(), s.out.size());
+    ta_answer answer = call(s.words.data(), s.words.size(), s.out.data(), s.out.size());
     s.refusal = answer.refusal;
     s.value = answer.value;
 }
 
-void report(const Library &l, State &s, const Case &)
-{
-    ta_answer answer = l.report(s.words.data(), s.words.size(), s.out.data(), s.out.size());
-    s.refusal = answer.refusal;
-    s.value = answer.value;
-}
+void card_write(const Library &l, State &s, const Case &) { write_by(l.card_write, s); }
+
+void report(const Library &l, State &s, const Case &) { write_by(l.report, s); }
 
 Contestant on_words(const Library &library, Task task, std::size_t batch)
 {

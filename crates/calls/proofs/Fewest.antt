@@ -26,7 +26,7 @@ pub record SaysYes (w : List ℕ) : Type 0 where
   pub passes : archive-rows w 0 ≡ 0
   pub yes : audited (read w) ≡ true
 
-says-yes : (w : List ℕ) → audit w ≡ record { refusal = 0; value = 1 } → SaysYes w
+pub says-yes : (w : List ℕ) → audit w ≡ record { refusal = 0; value = 1 } → SaysYes w
 unfolding audit answer holds
 says-yes w e = go (archive-rows w 0) (audited (read w)) refl refl e
   where

@@ -21,11 +21,12 @@ use Rattle.words.specs.Layout.{header, word, read, read-shape, read-rows}
 use Rattle.words.specs.Format.{guard, archive-rows}
 use Rattle.words.specs.Places.{as-trial, row-at, rows-before}
 use Rattle.words.proofs.Reading.{header-read}
-use Rattle.words.proofs.Passed.{passed, header-facts, unrefused, passes-again, still-refused}
+use Rattle.words.proofs.Passed.{header-facts, unrefused}
 use Rattle.words.proofs.Places.{rows-before-more}
 use Rattle.calls.specs.declared.Answer.{Answer}
 use Rattle.calls.specs.Lent.{answer}
 use Rattle.calls.proofs.Known.{count-rows, known}
+use Rattle.calls.proofs.Answers.{rows-refused, rows-passed}
 use Rattle.printing.specs.Texts.{lines-of, text-rows, output}
 use Rattle.printing.specs.Forms.{text-line, text-row, text-of, LastColumn, TextForm, TextRoom}
 use Rattle.printing.proofs.Laid.{Laid, laid-more, laid-column, laid-byte}
@@ -170,12 +171,12 @@ module _ (first wide : ℕ) where
 
   pub told-row : (w out : List ℕ) {k : ℕ} → k ≡ archive-rows w 0 → (k ≡ 0 → ⊥) → Told w out (record { refusal = k; value = 0 }) out
   unfolding text-rows
-  told-row w out {k} e some = told-refused w out k (still-refused w _ (λ z. some (e ∙ z)) ∙ sym e) some
+  told-row w out {k} e some = told-refused w out k (rows-refused w k _ e some) some
 
   -- Row 16, and the text, on words that have passed.
   text-rows-passed : (w out : List ℕ) → archive-rows w 0 ≡ 0 → text-rows (33 + wide) w out ≡ guard (ltb (length out) ((33 + wide) * (word w 0 + 1))) 16 0
   unfolding text-rows
-  text-rows-passed w out p = passes-again w _ (passed w p) ∙ (rw (count-rows w))
+  text-rows-passed w out p = rows-passed w _ p ∙ (rw (count-rows w))
 
   pub told-short : (w out : List ℕ) → archive-rows w 0 ≡ 0 → length out < (33 + wide) * (word w 0 + 1) → Told w out (record { refusal = 16; value = 0 }) out
   unfolding guard

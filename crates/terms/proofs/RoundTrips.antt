@@ -15,22 +15,23 @@ use borrow.Author.Tests.{le-ltb, ne-eqb, not-true}
 use Rattle.slices.specs.Choices.{both, pick, either}
 use Rattle.slices.proofs.Choices.{both-true}
 use Rattle.slices.proofs.Put.{put-front}
-use Rattle.hypervolume.specs.Cells.{holds}
 use Rattle.text.specs.Lines.{Numbers, line, line-from}
 use Rattle.text.specs.Justified.{line-of}
 use Rattle.text.proofs.Lines.{Fitting, length-line-of, line-line-of, line-of-line}
 use Rattle.words.specs.Archive.{Trial, Row, Shape, Archive, trials, ascends, before}
 use Rattle.words.specs.Layout.{word, extent, layout, read, read-shape}
 use Rattle.words.specs.Format.{guard, number-allowed, coordinates-allowed, held, distinct, archive-rows}
-use Rattle.words.proofs.Reading.{read-layout, length-layout, length-read-rows}
+use Rattle.words.proofs.Reading.{read-layout, length-layout}
 use Rattle.words.proofs.Passed.{within-bounds, bounds-within, passed, passed-both, Sound, shape-bounds, coordinates-small}
-use Rattle.calls.specs.Calls.{held-trials, place, empty, inserted, admission-rows, audited}
+use Rattle.calls.specs.Calls.{held-trials, place, empty, inserted, admission-rows}
 use Rattle.calls.specs.Counted.{counted}
 use Rattle.calls.specs.Lent.{answer, start-rows, audit}
+use Rattle.calls.proofs.Known.{count-rows}
 use Rattle.calls.proofs.Members.{map-map, map-id}
 use Rattle.calls.proofs.Counted.{inserted-trials, audited-counted, is-counted, counted-trials}
 use Rattle.calls.proofs.Order.{before-trans, AscendingTrials, ordered-ascending, not-held, held-place}
 use Rattle.calls.proofs.Sound.{rows-each, inserted-count}
+use Rattle.calls.proofs.Fewest.{says-yes}
 use Rattle.card.specs.Card.{shape-on, trial-on, lines, load}
 use Rattle.card.specs.Check.{packed, check}
 use Rattle.card.specs.Verdict.{archive, in-turn, judge-further, judge, answer-of}
@@ -41,6 +42,7 @@ use Rattle.history.specs.Book.{Book, entered, opened}
 use Rattle.history.specs.History.{sorted, fresh-archive, fresh}
 use Rattle.history.specs.Terms.{opened-by}
 use Rattle.history.proofs.Thinning.{fresh-is}
+use Rattle.history.proofs.Histories.{holds-front, holds-behind}
 use Rattle.printing.specs.Texts.{lines-of, text-rows, output}
 use Rattle.writing.specs.Written.{shape-line, trial-line, row-line, card-text, write-rows, write, written}
 use Rattle.terms.specs.Loading.{no-numbers, numbers-on, card-numbers, card-shape, card-trials, all-entered, card-book}
@@ -107,7 +109,9 @@ abbrev card-archive : List ℕ → Archive
 card-archive card = counted (card-shape card) (sorted (card-book card .trials))
 
 record Left (slice card : List ℕ) : Type 0 where
-  words : load slice card .words ≡ layout (card-archive card) ++ drop (extent (card-shape card .capacity)) slice
+  front : take (extent (card-shape card .capacity)) (load slice card .words) ≡ layout (card-archive card)
+  behind : drop (extent (card-shape card .capacity)) (load slice card .words) ≡ drop (extent (card-shape card .capacity)) slice
+  reads : read (load slice card .words) ≡ card-archive card
   sound : Sound (card-archive card)
 
 left : (slice card : List ℕ) → load slice card .answer .refusal ≡ 0 → Left slice card
@@ -117,13 +121,11 @@ left slice card e =
     let h = card-begun slice card e .holds in
     let is : fresh-archive b ≡ card-archive card = fresh-is b ∙ ap (λ s. counted s (sorted (b .trials))) (h .shape) in
     record {
-      words = h .words ∙ ap (λ a. layout a ++ drop (extent (card-shape card .capacity)) slice) is;
+      front = holds-front (card-shape card) _ _ b h ∙ ap layout is;
+      behind = holds-behind (card-shape card) _ _ b h;
+      reads = ap read (h .words) ∙ read-layout (fresh-archive b) _ ∙ is;
       sound = rw (← is) (h .sound);
     }
-
-card-long : (card : List ℕ) → Sound (card-archive card) → length (layout (card-archive card)) ≡ extent (card-shape card .capacity)
-unfolding counted
-card-long card s = length-layout (card-archive card) (s .held-within)
 
 -- A card is the lines of its numbers.
 
@@ -333,7 +335,7 @@ recounts w out slice e long = rw (d .card) loaded
         ∙ terms-after-loading .as-calls slice card unrefused .count
         ∙ ap length (trials-read a s)
         ∙ length-map (a .rows) (λ r. r .trial)
-        ∙ length-read-rows (word w 0) (drop 8 w)
+        ∙ count-rows w
 
     is : card-archive card ≡ counted (a .shape) (held-trials a)
     is =
@@ -346,16 +348,12 @@ recounts w out slice e long = rw (d .card) loaded
     size : extent (card-shape card .capacity) ≡ extent (word w 1)
     size = ap (λ q. extent (q .capacity)) (shape-read a s)
 
-    long-as : length (layout (card-archive card)) ≡ extent (word w 1)
-    long-as = card-long card (l .sound) ∙ size
-
     loaded : LoadsAs slice card (word w 0) (word w 1) (layout (counted (read w .shape) (trials (read w .rows))))
     loaded =
         record {
           answer = answered ∙ ap (λ n. record { refusal = 0; line = 0; count = n }) count;
-          words-before = ap (take (extent (word w 1))) (l .words) ∙ take-at (layout (card-archive card)) _ _ long-as ∙ ap layout is;
-          words-behind =
-              ap (drop (extent (word w 1))) (l .words) ∙ drop-at (layout (card-archive card)) _ _ long-as ∙ ap (λ k. drop k slice) size;
+          words-before = ap (λ k. take k (load slice card .words)) (sym size) ∙ l .front ∙ ap layout is;
+          words-behind = ap (λ k. drop k (load slice card .words)) (sym size) ∙ l .behind ∙ ap (λ k. drop k slice) size;
         }
 
 checks : (w out : List ℕ) → write w out .refusal ≡ 0 → check (card-left w out) ≡ 0
@@ -365,23 +363,16 @@ checks w out e =
     let zeros : List ℕ = replicate 2568 0 in
     ap packed (recounts w out zeros e (omega (arith, length-replicate {A = ℕ} 2568 0)) .answer)
 
--- "Whose audit says yes": the archive is a counted one.
-audit-yes : (w : List ℕ) → archive-rows w 0 ≡ 0 → audit w .value ≡ 1 → read w ≡ counted (read w .shape) (trials (read w .rows))
-unfolding audit answer holds
-audit-yes w p e = is-counted (read w) (audited-counted (read w) (go (audited (read w)) (rw p at e)))
-  where
-    go : (b : Bool) → holds b ≡ 1 → b ≡ true
-    go true e = refl
-    go false e = absurd (let no : ⊥ = omega arith in no)
-
-restores : (w out slice : List ℕ) → write w out .refusal ≡ 0 → audit w .value ≡ 1 → extent (word w 1) ≤ length slice
+-- Where the audit says yes, the archive is a counted one.
+restores : (w out slice : List ℕ) → write w out .refusal ≡ 0 → audit w ≡ record { refusal = 0; value = 1 } → extent (word w 1) ≤ length slice
     → LoadsAs slice (card-left w out) (word w 0) (word w 1) (take (extent (word w 1)) w)
 unfolding read read-shape
 restores w out slice e said long =
     let p = passed w (done w out e .passes) in
     let size : length (layout (read w)) ≡ extent (word w 1) = length-layout (read w) (p .sound .held-within) in
     let front : take (extent (word w 1)) w ≡ layout (read w) = ap (take (extent (word w 1))) (p .laid) ∙ take-at (layout (read w)) _ _ size in
-    rw (front, audit-yes w (done w out e .passes) said) (recounts w out slice e long)
+    let is : read w ≡ counted (read w .shape) (trials (read w .rows)) = is-counted (read w) (audited-counted (read w) (says-yes w said .yes)) in
+    rw (front, is) (recounts w out slice e long)
 
 -- Writing a loaded card.
 same-bytes : (card slice out : List ℕ) → load slice card .answer .refusal ≡ 0 → write (load slice card .words) out .refusal ≡ 0
@@ -392,7 +383,7 @@ same-bytes card slice out e f = (forth, back)
     l = left slice card e
 
     is : card-left (load slice card .words) out ≡ card-text (card-archive card)
-    is = done (load slice card .words) out f .card ∙ ap card-text (ap read (l .words) ∙ read-layout (card-archive card) _)
+    is = done (load slice card .words) out f .card ∙ ap card-text (l .reads)
 
     forth : card-left (load slice card .words) out ≡ card → in-archive-order card ≡ true
     forth same = ap in-archive-order (sym same ∙ is) ∙ text-in-order (card-archive card) (l .sound)

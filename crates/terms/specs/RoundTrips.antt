@@ -39,7 +39,7 @@ pub record CarriedAlike (v w : List ℕ) : Type 0 where
 pub record RoundTrips : Type 0 where
   -- "For an archive whose audit says yes, loading the written card restores its words through the last record": into any slice
   -- that is long enough, all words before 8 + 5 × capacity.
-  pub restores : (w out slice : List ℕ) → write w out .refusal ≡ 0 → audit w .value ≡ 1 → extent (word w 1) ≤ length slice
+  pub restores : (w out slice : List ℕ) → write w out .refusal ≡ 0 → audit w ≡ record { refusal = 0; value = 1 } → extent (word w 1) ≤ length slice
       → LoadsAs slice (card-left w out) (word w 0) (word w 1) (take (extent (word w 1)) w)
   -- Whatever the audit says: the same capacity, reference and trials, with total, front and contributions counted on them.
   pub recounts : (w out slice : List ℕ) → write w out .refusal ≡ 0 → extent (word w 1) ≤ length slice
