@@ -1,6 +1,6 @@
 #!/bin/sh
 # Holds the parts of the C boundary together: the symbols of the library, the exported functions and
-# the answers' structs in crates/*/src, include/trial_archive.h and rust/src/sys.rs.
+# the structs that they take and answer in crates/*/src, include/trial_archive.h and rust/src/sys.rs.
 #
 #   bench/boundary.sh LIB      LIB: path of libtrial_archive.a
 #
@@ -58,12 +58,16 @@ BEGIN {
     c_type["*mut u64"] = c_type["&mut [u64]"] = "uint64_t *"
     c_type["*const u8"] = c_type["&[u8]"] = "const uint8_t *"
     c_type["*mut u8"] = c_type["&mut [u8]"] = "uint8_t *"
+    c_type["*const f64"] = c_type["&[f64]"] = "const double *"
     c_type["i64"] = "int64_t "
+    c_type["f64"] = "double "
     c_type["Answer"] = "ta_answer "
     c_type["Change"] = "ta_change "
+    c_type["Corner"] = "ta_corner "
     c_type["GridAnswer"] = "ta_grid_answer "
     c_type["LeastAnswer"] = "ta_least_answer "
     c_type["Loaded"] = c_type["LoadAnswer"] = "ta_load_answer "
+    c_type["VolumeAnswer"] = "ta_volume_answer "
 }
 
 # A name with a type of Rust or Rattle, as C has it.
@@ -91,7 +95,7 @@ function prototype(result, name, params) {
     return squeezed(in_c(result, "")) " " name "(" params ")"
 }
 
-# Says the structs of s that are answers.
+# Says the structs of s that exports take or answer.
 function structs(who, s, whole, part) {
     while (match(s, /(#\[[^]]*\] )*pub struct [A-Za-z]+ \{[^{}]*\}/)) {
         whole = substr(s, RSTART, RLENGTH)

@@ -3,14 +3,16 @@
  * shares at their ties, whole grids, replacements up to the largest, the front
  * and archives kept from before it, ties by both rules, cards written back and
  * loaded again, one meeting with each refusal, coordinates on both sides of
- * every limit, numbers as C passes them, and what the header defines: the
- * structs' fields and the lengths. Lent memory stands between guards, and what a
- * call only reads is compared after it.
+ * every limit, numbers as C passes them, volumes in doubles bit for bit and with
+ * bad doubles at every place, and what the header defines: the structs' fields
+ * and the lengths. Lent memory stands between guards, and what a call only reads
+ * is compared after it.
  * Prints what went wrong, and at the end 'N passed, M failed'; ends with 1
  * where something failed.
  */
 #include "trial_archive.h"
 
+#include <float.h>
 #include <inttypes.h>
 #include <stdio.h>
 #include <stdlib.h>
@@ -1154,6 +1156,437 @@ static void numbers_converted(void)
     CHECK(words[TA_RECORDS + 3 * TA_RECORD_WORDS + 3] == 3);
 }
 
+/* ---- volumes in doubles */
+
+enum { MOST_DOUBLES = 3 * TA_MAX_POINTS, DOUBLES = MOST_DOUBLES + 3 };
+
+static double doubles_memory[GUARD + DOUBLES + GUARD];
+static double *const doubles = doubles_memory + GUARD;
+
+static uint64_t bits_of(double number)
+{
+    uint64_t bits;
+
+    memcpy(&bits, &number, sizeof bits);
+    return bits;
+}
+
+static double double_of(uint64_t bits)
+{
+    double number;
+
+    memcpy(&number, &bits, sizeof number);
+    return number;
+}
+
+static ta_corner corner(double x, double y, double z)
+{
+    ta_corner reference;
+
+    reference.x = x;
+    reference.y = y;
+    reference.z = z;
+    return reference;
+}
+
+/* By its bits: plus zero is not minus zero. */
+static int is_volume(ta_volume_answer answer, uint64_t refusal, double volume)
+{
+    return answer.refusal == refusal && bits_of(answer.volume) == bits_of(volume);
+}
+
+/* All doubles, guards included, are this one. */
+static void fill_doubles(double number)
+{
+    size_t i;
+
+    for (i = 0; i < LENGTH(doubles_memory); i++) {
+        doubles_memory[i] = number;
+    }
+}
+
+/* The volume of the first doubles, which are only read. */
+static ta_volume_answer volume(ta_corner reference, size_t len)
+{
+    static double copy[LENGTH(doubles_memory)];
+    ta_volume_answer answer;
+
+    memcpy(copy, doubles_memory, sizeof copy);
+    answer = ta_volume(reference, doubles, len);
+    CHECK(memcmp(copy, doubles_memory, sizeof copy) == 0);
+    return answer;
+}
+
+/* The card's points, and one more. */
+static void lend_card_points(double x, double y, double z)
+{
+    static const double card_points[] = {1, 2, 2, 2, 1, 2, 2, 2, 1, 1, 1, 3};
+
+    fill_doubles(7);
+    memcpy(doubles, card_points, sizeof card_points);
+    doubles[12] = x;
+    doubles[13] = y;
+    doubles[14] = z;
+}
+
+static void volumes(void)
+{
+    const double most = TA_MAX_REFERENCE;
+    const double largest = 1152921504606846976.0;
+    size_t i;
+
+    lend_card_points(0, 0, 0);
+    CHECK(is_volume(volume(corner(4, 4, 4), 12), TA_DONE, 21));
+    CHECK(is_volume(volume(corner(4, 4, 4), 9), TA_DONE, 20));
+    CHECK(is_volume(volume(corner(4, 4, 4), 15), TA_DONE, 64));
+    CHECK(is_volume(volume(corner(4, 4, 4), 0), TA_DONE, 0));
+    CHECK(is_volume(volume(corner(most, most, most), 0), TA_DONE, 0));
+    CHECK(is_volume(volume(corner(most, most, most), 15), TA_DONE, largest));
+    /* x, y and z */
+    CHECK(is_volume(volume(corner(3, 5, 7), 3), TA_DONE, 30));
+    /* at the reference or past it on one axis: nothing more */
+    for (i = 0; i < 3; i++) {
+        lend_card_points(0, 0, 0);
+        doubles[12 + i] = 4;
+        CHECK(is_volume(volume(corner(4, 4, 4), 15), TA_DONE, 21));
+        doubles[12 + i] = 5;
+        CHECK(is_volume(volume(corner(4, 4, 4), 15), TA_DONE, 21));
+        doubles[12 + i] = most;
+        CHECK(is_volume(volume(corner(4, 4, 4), 15), TA_DONE, 21));
+    }
+    /* minus zero */
+    lend_card_points(-0.0, -0.0, -0.0);
+    CHECK(is_volume(volume(corner(4, 4, 4), 15), TA_DONE, 64));
+    lend_card_points(3, -0.0, 0);
+    CHECK(is_volume(volume(corner(4, 4, 4), 15), TA_DONE, 29));
+    lend_card_points(-0.0, 4, -0.0);
+    CHECK(is_volume(volume(corner(4, 4, 4), 15), TA_DONE, 21));
+    /* 1,152,909,409,998,864,375 cells in one layer, and in two that a point past
+       the reference on x parts; a fused step would give the first sum again */
+    fill_doubles(1);
+    doubles[1] = 9;
+    CHECK(is_volume(volume(corner(most, most, most), 3), TA_DONE, 1152909409998864384.0));
+    doubles[3] = most;
+    doubles[5] = 8;
+    CHECK(is_volume(volume(corner(most, most, most), 6), TA_DONE, 1152909409998864256.0));
+    /* past it on z as well: one layer */
+    doubles[5] = most;
+    CHECK(is_volume(volume(corner(most, most, most), 6), TA_DONE, 1152909409998864384.0));
+}
+
+static void rows_17_19_and_20(void)
+{
+    const double most = TA_MAX_COORDINATE;
+    const double cells = 64;
+    size_t i;
+
+    for (i = 0; i < 2; i++) {
+        /* good ones first, then bad ones only: the length decides before them */
+        fill_doubles(i == 0 ? 0.0 : 0.5);
+        CHECK(is_volume(volume(corner(4, 4, 4), 1), TA_BAD_LENGTH, 0));
+        CHECK(is_volume(volume(corner(4, 4, 4), 2), TA_BAD_LENGTH, 0));
+        CHECK(is_volume(volume(corner(4, 4, 4), 4), TA_BAD_LENGTH, 0));
+        CHECK(is_volume(volume(corner(4, 0, 4), 5), TA_BAD_LENGTH, 0));
+        CHECK(is_volume(volume(corner(4, 4, 4), MOST_DOUBLES - 1), TA_BAD_LENGTH, 0));
+        CHECK(is_volume(volume(corner(4, 4, 4), MOST_DOUBLES + 1), TA_BAD_LENGTH, 0));
+        CHECK(is_volume(volume(corner(4, 4, 4), MOST_DOUBLES + 2), TA_BAD_LENGTH, 0));
+        CHECK(is_volume(volume(corner(4, 4, 4), MOST_DOUBLES + 3), TA_TOO_MANY_POINTS, 0));
+        CHECK(is_volume(volume(corner(0, 4, 4), MOST_DOUBLES + 3), TA_TOO_MANY_POINTS, 0));
+        CHECK(is_volume(volume(corner(4, 4, 4), MOST_DOUBLES),
+                        i == 0 ? TA_DONE : TA_BAD_DOUBLE, i == 0 ? cells : 0));
+        CHECK(is_volume(volume(corner(0, 4, 4), MOST_DOUBLES), TA_BAD_DOUBLE, 0));
+        CHECK(is_volume(volume(corner(4, 4, 4), 3),
+                        i == 0 ? TA_DONE : TA_BAD_DOUBLE, i == 0 ? cells : 0));
+        CHECK(is_volume(volume(corner(4, 4, 4), 0), TA_DONE, 0));
+    }
+    /* one bad one among 513 points, and among 512 */
+    fill_doubles(0);
+    doubles[MOST_DOUBLES - 1] = -1;
+    CHECK(is_volume(volume(corner(4, 4, 4), MOST_DOUBLES + 3), TA_TOO_MANY_POINTS, 0));
+    CHECK(is_volume(volume(corner(4, 4, 4), MOST_DOUBLES), TA_BAD_DOUBLE, 0));
+    CHECK(is_volume(volume(corner(4, 4, 4), MOST_DOUBLES - 3), TA_DONE, cells));
+    /* the limits of the reference: a zero of either sign is below them */
+    CHECK(is_volume(volume(corner(1, 1, 1), 3), TA_DONE, 1));
+    CHECK(is_volume(volume(corner(0.0, 1, 1), 0), TA_BAD_DOUBLE, 0));
+    CHECK(is_volume(volume(corner(1, -0.0, 1), 0), TA_BAD_DOUBLE, 0));
+    CHECK(is_volume(volume(corner(1, 1, -0.0), 3), TA_BAD_DOUBLE, 0));
+    CHECK(is_volume(volume(corner(most, 1, 1), 3), TA_DONE, most));
+    CHECK(is_volume(volume(corner(1, most + 1, 1), 3), TA_BAD_DOUBLE, 0));
+    /* those of a point */
+    doubles[1] = most;
+    CHECK(is_volume(volume(corner(4, 4, 4), 3), TA_DONE, 0));
+    doubles[1] = most + 1;
+    CHECK(is_volume(volume(corner(4, 4, 4), 3), TA_BAD_DOUBLE, 0));
+}
+
+/* 512 points near one plane, none of them at 0. */
+static void lend_many(void)
+{
+    int i;
+
+    fill_doubles(7);
+    for (i = 0; i < TA_MAX_POINTS; i++) {
+        int x = 1 + i * 331 % 1000;
+        int y = 1 + i * 577 % 1000;
+
+        doubles[3 * i] = x;
+        doubles[3 * i + 1] = y;
+        doubles[3 * i + 2] = 3000 - x - y;
+    }
+}
+
+/* This double is refused in every place of the reference, with points and
+   without, and in every place of 512 points. */
+static void check_bad(double bad)
+{
+    const ta_corner good = corner(4000, 4000, 4000);
+    int wrong = 0;
+    size_t i;
+
+    for (i = 0; i <= MOST_DOUBLES; i += MOST_DOUBLES / 2) {
+        CHECK(is_volume(volume(corner(bad, 4000, 4000), i), TA_BAD_DOUBLE, 0));
+        CHECK(is_volume(volume(corner(4000, bad, 4000), i), TA_BAD_DOUBLE, 0));
+        CHECK(is_volume(volume(corner(4000, 4000, bad), i), TA_BAD_DOUBLE, 0));
+    }
+    for (i = 0; i < MOST_DOUBLES; i++) {
+        double own = doubles[i];
+
+        doubles[i] = bad;
+        wrong += !is_volume(ta_volume(good, doubles, MOST_DOUBLES), TA_BAD_DOUBLE, 0);
+        wrong += bits_of(doubles[i]) != bits_of(bad);
+        doubles[i] = own;
+    }
+    CHECK(wrong == 0);
+}
+
+static void bad_doubles(void)
+{
+    static const uint64_t patterns[] = {
+        /* not numbers: quiet, then signalling */
+        0x7ff8000000000000u, 0x7ff8000000000001u, 0x7fffffffffffffffu,
+        0x7ff0000000000001u, 0x7ff4000000000000u, 0x7ff7ffffffffffffu,
+        /* infinite */
+        0x7ff0000000000000u,
+        /* subnormal */
+        0x0000000000000001u, 0x0000000000000004u, 0x0000000000100000u,
+        0x0008000000000000u, 0x000fffffffffffffu,
+        /* the smallest normal ones */
+        0x0010000000000000u, 0x0010000000000001u
+    };
+    static const double sizes[] = {
+        0.5, 1.5, 2.5, DBL_EPSILON, 1.0 - DBL_EPSILON / 2, 1.0 + DBL_EPSILON, 1048575.5,
+        1048576.5, 1048576.0 + 1.0 / 4294967296.0, 1048577.0, 2097152.0, 2147483648.0,
+        4294967296.0, 4294967300.0, 4503599627370495.5, 9007199254740992.0,
+        9223372036854775808.0, 18446744073709551616.0, DBL_MAX
+    };
+    static const double negative[] = {-1, -2, -4, -TA_MAX_COORDINATE};
+    const uint64_t sign = (uint64_t)1 << 63;
+    ta_volume_answer plain;
+    size_t i;
+
+    lend_many();
+    plain = volume(corner(4000, 4000, 4000), MOST_DOUBLES);
+    CHECK(plain.refusal == TA_DONE);
+    for (i = 0; i < LENGTH(patterns); i++) {
+        check_bad(double_of(patterns[i]));
+        check_bad(double_of(patterns[i] ^ sign));
+    }
+    for (i = 0; i < LENGTH(sizes); i++) {
+        check_bad(sizes[i]);
+        check_bad(-sizes[i]);
+    }
+    for (i = 0; i < LENGTH(negative); i++) {
+        check_bad(negative[i]);
+    }
+    CHECK(is_volume(volume(corner(4000, 4000, 4000), MOST_DOUBLES), TA_DONE, plain.volume));
+}
+
+/* Minus zero in every place of 512 points is as zero there. */
+static void minus_zeros(void)
+{
+    const ta_corner reference = corner(TA_MAX_REFERENCE, TA_MAX_REFERENCE, TA_MAX_REFERENCE);
+    int wrong = 0;
+    size_t i;
+
+    lend_many();
+    for (i = 0; i < MOST_DOUBLES; i++) {
+        double own = doubles[i];
+        ta_volume_answer plain;
+
+        doubles[i] = 0.0;
+        plain = ta_volume(reference, doubles, MOST_DOUBLES);
+        doubles[i] = -0.0;
+        wrong += plain.refusal != TA_DONE;
+        wrong += !is_volume(ta_volume(reference, doubles, MOST_DOUBLES), TA_DONE, plain.volume);
+        wrong += bits_of(doubles[i]) != bits_of(-0.0);
+        doubles[i] = own;
+    }
+    CHECK(wrong == 0);
+}
+
+/* A set of points in whole numbers, and how many they are. */
+static uint64_t points[TA_MAX_POINTS][3];
+static size_t count_of_points;
+
+static int by_x(const void *left, const void *right)
+{
+    const uint64_t *a = left;
+    const uint64_t *b = right;
+
+    return a[0] < b[0] ? -1 : a[0] > b[0];
+}
+
+/* The least z from this one on, of any point, or the reference's. */
+static uint64_t next_layer(uint64_t from, uint64_t rz)
+{
+    size_t i;
+
+    for (i = 0; i < count_of_points; i++) {
+        if (points[i][2] >= from && points[i][2] < rz) {
+            rz = points[i][2];
+        }
+    }
+    return rz;
+}
+
+/* The cells of layer z that some point dominates: the points in ascending x,
+   each column as high as the least y so far leaves it. */
+static uint64_t layer_area(uint64_t z, uint64_t rx, uint64_t ry)
+{
+    uint64_t area = 0;
+    uint64_t from = 0;
+    uint64_t least_y = ry;
+    size_t i;
+
+    for (i = 0; i < count_of_points; i++) {
+        if (points[i][2] > z || points[i][0] >= rx) {
+            continue;
+        }
+        area += (points[i][0] - from) * (ry - least_y);
+        from = points[i][0];
+        if (points[i][1] < least_y) {
+            least_y = points[i][1];
+        }
+    }
+    return area + (rx - from) * (ry - least_y);
+}
+
+/* The sum as document 02 has it, and the cells that it is meant to be. Two
+   steps, each rounded: bench/common.sh compiles without fused ones. */
+static double layers_added(const uint64_t *reference, wide *cells)
+{
+    const uint64_t rz = reference[2];
+    uint64_t z = next_layer(0, rz);
+    double sum = 0;
+
+    *cells = 0;
+    while (z < rz) {
+        uint64_t next = next_layer(z + 1, rz);
+        uint64_t area = layer_area(z, reference[0], reference[1]);
+        double product = (double)area * (double)(next - z);
+
+        sum = sum + product;
+        *cells += (wide)area * (next - z);
+        z = next;
+    }
+    return sum;
+}
+
+/* Random points: some with z's that they share, some at the reference or past
+   it. */
+static void draw_points(const uint64_t *reference, size_t count)
+{
+    uint64_t levels = next_random() % 3 == 0 ? 1 + next_random() % 20 : TA_MAX_REFERENCE;
+    uint64_t low = 1 + next_random() % 8;
+    uint64_t past = next_random() % 3;
+    size_t i;
+    size_t axis;
+
+    count_of_points = count;
+    for (i = 0; i < count; i++) {
+        for (axis = 0; axis < 3; axis++) {
+            uint64_t further = TA_MAX_COORDINATE - reference[axis];
+
+            points[i][axis] = next_random() % (reference[axis] / low + 1);
+            if (next_random() % 10 < past) {
+                points[i][axis] = reference[axis] + next_random() % (further + 1);
+            }
+        }
+        if (levels < TA_MAX_REFERENCE) {
+            points[i][2] = reference[2] / levels * (next_random() % levels);
+        }
+        if (i > 0 && next_random() % 20 == 0) {
+            memcpy(points[i], points[next_random() % i], sizeof points[i]);
+        }
+    }
+    fill_doubles(7);
+    for (i = 0; i < count; i++) {
+        for (axis = 0; axis < 3; axis++) {
+            doubles[3 * i + axis] = (double)points[i][axis];
+        }
+    }
+    qsort(points, count, sizeof points[0], by_x);
+}
+
+/* Against the sum and the count made here, in boxes below, at and above 2^53
+   and up to the largest. */
+static void random_volumes(void)
+{
+    static const uint64_t boxes[][3] = {
+        {5, 6, 7}, {1000, 20, 300000}, {868246, 428767, 24195}, {1048576, 1048576, 8192},
+        {786438, 13058, 877099}, {924115, 92039, 105899}, {1048576, 1048576, 8193},
+        {1048575, 1048573, 1048571}, {1048576, 1048576, 1048576}, {1048576, 1048576, 1048576}
+    };
+    static const wide exact_up_to = (wide)1 << 53;
+    int wrong = 0;
+    int far = 0;
+    int rounded = 0;
+    int i;
+
+    for (i = 0; i < 2000; i++) {
+        const uint64_t *at = boxes[i % (int)LENGTH(boxes)];
+        size_t count = i % 7 == 0 ? TA_MAX_POINTS - next_random() % 3 : next_random() % 60;
+        ta_corner reference = corner((double)at[0], (double)at[1], (double)at[2]);
+        ta_volume_answer found;
+        wide cells;
+        wide apart;
+        double expected;
+
+        draw_points(at, count);
+        expected = layers_added(at, &cells);
+        found = ta_volume(reference, doubles, 3 * count);
+        wrong += !is_volume(found, TA_DONE, expected);
+        apart = (wide)found.volume;
+        apart = apart < cells ? cells - apart : apart - cells;
+        rounded += apart != 0;
+        far += apart > ((wide)at[0] * at[1] * at[2] <= exact_up_to ? 0 : 192 * count);
+    }
+    CHECK(wrong == 0);
+    CHECK(far == 0);
+    CHECK(rounded > 200);
+}
+
+/* The total of an archive of the same points, where the box is at most 2^53. */
+static void volumes_of_archives(void)
+{
+    static const uint64_t reference[3] = {200000, 200000, 200000};
+    static uint64_t many[TA_WORDS(TA_MAX_CAPACITY)];
+    static uint64_t grid[TA_MAX_CAPACITY][4];
+    size_t i;
+
+    draw_points(reference, TA_MAX_POINTS);
+    for (i = 0; i < TA_MAX_POINTS; i++) {
+        grid[i][0] = i + 1;
+        memcpy(grid[i] + 1, points[i], sizeof points[i]);
+    }
+    CHECK(ta_start(many, LENGTH(many), 200000, 200000, 200000, TA_MAX_CAPACITY) == TA_DONE);
+    CHECK(is_grid(ta_insert_grid(many, LENGTH(many), grid[0], 4 * TA_MAX_CAPACITY),
+                  TA_DONE, TA_MAX_CAPACITY, TA_DONE));
+    CHECK(many[TA_TOTAL] > 0);
+    CHECK(is_volume(volume(corner(200000, 200000, 200000), MOST_DOUBLES), TA_DONE,
+                    (double)many[TA_TOTAL]));
+}
+
 /* ---- what the header defines */
 
 /* Stops the compiler where the condition does not hold. */
@@ -1177,6 +1610,15 @@ HOLDS(load_is_three_words, sizeof(ta_load_answer) == 24);
 HOLDS(load_refusal_first, offsetof(ta_load_answer, refusal) == 0);
 HOLDS(load_line_second, offsetof(ta_load_answer, line) == 8);
 HOLDS(load_count_third, offsetof(ta_load_answer, count) == 16);
+HOLDS(corner_is_three_doubles, sizeof(ta_corner) == 24);
+HOLDS(corner_x_first, offsetof(ta_corner, x) == 0);
+HOLDS(corner_y_second, offsetof(ta_corner, y) == 8);
+HOLDS(corner_z_third, offsetof(ta_corner, z) == 16);
+HOLDS(volume_is_two_words, sizeof(ta_volume_answer) == 16);
+HOLDS(volume_refusal_first, offsetof(ta_volume_answer, refusal) == 0);
+HOLDS(volume_volume_second, offsetof(ta_volume_answer, volume) == 8);
+/* The sums made here are made in doubles. */
+HOLDS(doubles_are_no_wider, FLT_EVAL_METHOD == 0);
 /* The lengths are constants. */
 HOLDS(words_of_the_largest, TA_WORDS(TA_MAX_CAPACITY) == 2568);
 HOLDS(log_of_the_largest, TA_LOG_WORDS(TA_MAX_CAPACITY, 0) == 1024);
@@ -1189,6 +1631,7 @@ static void fields(void)
     ta_answer answer;
     ta_least_answer least_found;
     ta_load_answer loaded;
+    ta_volume_answer figure;
 
     insert_card(4);
     remove_trial(3);
@@ -1218,6 +1661,17 @@ static void fields(void)
     CHECK(loaded.refusal == 15);
     CHECK(loaded.line == 4);
     CHECK(loaded.count == 0);
+
+    lend_card_points(0, 0, 0.5);
+    figure = volume(corner(4, 4, 4), 12);
+    CHECK(figure.refusal == 0);
+    CHECK(figure.volume == 21);
+    figure = volume(corner(4, 4, 4), 15);
+    CHECK(figure.refusal == 19);
+    CHECK(figure.volume == 0);
+    figure = volume(corner(4, 4, 4), MOST_DOUBLES + 3);
+    CHECK(figure.refusal == 20);
+    CHECK(figure.volume == 0);
 }
 
 /* No length of a log wraps, whatever the arguments' types. */
@@ -1274,6 +1728,12 @@ int main(void)
     coordinates_at_their_limits();
     numbers_too_wide();
     numbers_converted();
+    volumes();
+    rows_17_19_and_20();
+    bad_doubles();
+    minus_zeros();
+    random_volumes();
+    volumes_of_archives();
     fields();
     log_lengths();
     printf("%d passed, %d failed\n", passed, failed);

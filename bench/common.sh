@@ -12,8 +12,9 @@ absolute() {
     echo "$(cd "$(dirname "$1")" && pwd)/$(basename "$1")"
 }
 
+# Without fused steps: caller.c compares doubles bit for bit.
 c99() {
-    "${CC:-gcc}" -std=c99 -Wall -Wextra -Wpedantic -Werror -I"$here/../include" "$@"
+    "${CC:-gcc}" -std=c99 -ffp-contract=off -Wall -Wextra -Wpedantic -Werror -I"$here/../include" "$@"
 }
 
 # check WHAT COMMAND..: one test; a command that fails shows what it wrote.

@@ -19,8 +19,10 @@ static uint64_t words[TA_WORDS(TA_MAX_CAPACITY)];
 static uint64_t log_words[2 * TA_MAX_CAPACITY];
 static uint8_t out[TA_REPORT_BYTES(TA_MAX_CAPACITY)];
 static uint8_t card[TA_CARD_BYTES(TA_MAX_CAPACITY)];
+static double points[3 * TA_MAX_POINTS];
 
 static const uint64_t grid[] = {TA_MAX_NUMBER, 1, 2, 3};
+static const ta_corner corner = {2000, 2000, 2000};
 static const size_t len = sizeof words / sizeof words[0];
 static uint64_t answer;
 
@@ -40,8 +42,10 @@ static void card_check(void) { answer = ta_card_check(card, sizeof card); }
 static void card_load(void) { answer = ta_card_load(words, len, card, sizeof card).refusal; }
 static void card_write(void) { answer = ta_card_write(words, len, out, sizeof out).refusal; }
 static void report(void) { answer = ta_report(words, len, out, sizeof out).refusal; }
+static void volume(void) { answer = ta_volume(corner, points, 3 * TA_MAX_POINTS).refusal; }
 
-/* A card of 512 trials near one plane, so that a reduction has work to do. */
+/* A card of 512 trials near one plane, so that a reduction has work to do, and
+   the same points in doubles. */
 static void fill_card(void)
 {
     char line[LINE + 1];
@@ -55,6 +59,9 @@ static void fill_card(void)
 
         snprintf(line, sizeof line, "%8d%8d%8d%8d\n", i, x, y, 2000 - x - y);
         memcpy(card + LINE * i, line, LINE);
+        points[3 * i - 3] = x;
+        points[3 * i - 2] = y;
+        points[3 * i - 1] = 2000 - x - y;
     }
 }
 
@@ -95,14 +102,14 @@ static size_t touched_by(void (*call)(void))
 int main(void)
 {
     /* In such an order that every call is done: the card fills the archive, a
-       removal makes room twice, and the reduction comes last. */
+       removal makes room twice, and the reduction comes last of those on it. */
     static const struct { const char *name; void (*call)(void); } calls[] = {
         {"ta_start", start}, {"ta_card_check", card_check}, {"ta_card_load", card_load},
         {"ta_least", least}, {"ta_joint", joint}, {"ta_gain", gain},
         {"ta_replace_effect", replace_effect}, {"ta_share", share}, {"ta_audit", audit},
         {"ta_card_write", card_write}, {"ta_report", report}, {"ta_remove", remove_trial},
         {"ta_insert_grid", insert_grid}, {"ta_remove", remove_trial}, {"ta_insert", insert},
-        {"ta_reduce", reduce},
+        {"ta_reduce", reduce}, {"ta_volume", volume},
     };
     size_t base;
     size_t i;

@@ -8,6 +8,7 @@
 #include "trial_archive.h"
 
 #include <cstdio>
+#include <cstring>
 #include <stdexcept>
 
 using Words = std::vector<std::uint64_t>;
@@ -49,7 +50,10 @@ struct Case {
     std::uint64_t keep = 0;
     Bytes card;
     Words grid;
-    // For those that recompute: the points to count, and their contributions.
+    ta_corner corner{};
+    std::vector<double> doubles;
+    // For those that recompute: the points to count, and their contributions; for a volume their
+    // total alone.
     Point reference{};
     std::vector<Point> points;
     std::vector<Count> exact;
@@ -149,6 +153,29 @@ inline Bytes report_of(const Words &words)
     return report;
 }
 
+// A double as a word, to be compared bit for bit.
+inline std::uint64_t bits(double number)
+{
+    std::uint64_t word;
+    static_assert(sizeof word == sizeof number);
+    std::memcpy(&word, &number, sizeof word);
+    return word;
+}
+
+// The volume of any points, past the reference too.
+inline Case volume_of(const Set &set)
+{
+    Case c;
+    c.reference = set.reference;
+    c.points = set.points;
+    auto number = [&](std::size_t axis) { return static_cast<double>(set.reference[axis]); };
+    c.corner = {number(0), number(1), number(2)};
+    for (const Point &p : set.points)
+        c.doubles.insert(c.doubles.end(), p.begin(), p.end());
+    c.after.value = bits(textbook::volume(set.points, set.reference));
+    return c;
+}
+
 // The set's trials are numbered from 1. The last of them is the one inserted or removed.
 class Story
 {
@@ -245,6 +272,13 @@ public:
         c.before.words = fresh({}, room, reference);
         c.after.words = full;
         c.after.value = all.size();
+        return c;
+    }
+
+    Case volume() const
+    {
+        Case c = volume_of(Set{reference, points_of(all)});
+        c.exact = {full[TA_TOTAL]};
         return c;
     }
 

@@ -1,6 +1,6 @@
 // The benchmark: compares every answer with the exact one, times, and prints one table.
 //
-//   driver [--quick]
+//   driver [--quick] [CALL]      CALL: the rows of this call alone
 //
 // Ends with 1 where the library or the Rust yardstick answers wrongly.
 #include "cases.hpp"
@@ -9,7 +9,6 @@
 #include "yardstick.h"
 
 #include <cmath>
-#include <cstring>
 #include <iostream>
 #include <map>
 #include <memory>
@@ -29,12 +28,13 @@ struct Library {
     decltype(&ta_card_load) card_load;
     decltype(&ta_card_write) card_write;
     decltype(&ta_report) report;
+    decltype(&ta_volume) volume;
 };
 
-const Library archive{"archive", ta_insert, ta_insert_grid, ta_remove,     ta_least,
-                      ta_reduce, ta_audit,  ta_card_load,   ta_card_write, ta_report};
-const Library yardstick{"rust",    rs_insert, rs_insert_grid, rs_remove,     rs_least,
-                        rs_reduce, rs_audit,  rs_card_load,   rs_card_write, rs_report};
+const Library archive{"archive", ta_insert,    ta_insert_grid, ta_remove, ta_least, ta_reduce,
+                      ta_audit,  ta_card_load, ta_card_write,  ta_report, ta_volume};
+const Library yardstick{"rust",   rs_insert,    rs_insert_grid, rs_remove, rs_least, rs_reduce,
+                        rs_audit, rs_card_load, rs_card_write,  rs_report, rs_volume};
 
 // What is timed of them.
 using Task = void (*)(const Library &, State &, const Case &);
@@ -112,6 +112,13 @@ void card_write(const Library &l, State &s, const Case &) { write_by(l.card_writ
 
 void report(const Library &l, State &s, const Case &) { write_by(l.report, s); }
 
+void volume(const Library &l, State &s, const Case &c)
+{
+    ta_volume_answer answer = l.volume(c.corner, c.doubles.data(), c.doubles.size());
+    s.refusal = answer.refusal;
+    s.value = bits(answer.volume);
+}
+
 Contestant on_words(const Library &library, Task task, std::size_t batch)
 {
     struct Place {
@@ -161,30 +168,37 @@ void compare_no(const Library &library, const std::vector<Case> &cases)
 // Those that recompute. What they find is used, so that no work can be left out.
 volatile double found;
 
-Contestant textbook_recount()
+template <class Ask> Contestant by_textbook(Ask ask)
 {
     auto asked = std::make_shared<const Case *>();
     auto prepare = [asked](std::size_t, const Case &c) { *asked = &c; };
-    auto run = [asked](std::size_t) {
-        std::vector<Count> all = textbook::contributions((*asked)->points, (*asked)->reference);
-        found = static_cast<double>(*std::min_element(all.begin(), all.end()));
-    };
+    auto run = [asked, ask](std::size_t) { found = ask(**asked); };
     return {1, prepare, run};
+}
+
+Contestant textbook_recount()
+{
+    return by_textbook([](const Case &c) {
+        std::vector<Count> all = textbook::contributions(c.points, c.reference);
+        return static_cast<double>(*std::min_element(all.begin(), all.end()));
+    });
 }
 
 Contestant textbook_reduction()
 {
-    auto asked = std::make_shared<const Case *>();
-    auto prepare = [asked](std::size_t, const Case &c) { *asked = &c; };
-    auto run = [asked](std::size_t) {
-        std::vector<Point> points = (*asked)->points;
-        while (points.size() > (*asked)->keep) {
-            std::vector<Count> all = textbook::contributions(points, (*asked)->reference);
+    return by_textbook([](const Case &c) {
+        std::vector<Point> points = c.points;
+        while (points.size() > c.keep) {
+            std::vector<Count> all = textbook::contributions(points, c.reference);
             points.erase(points.begin() + (std::min_element(all.begin(), all.end()) - all.begin()));
         }
-        found = points.empty() ? 0 : points[0][0];
-    };
-    return {1, prepare, run};
+        return points.empty() ? 0 : points[0][0];
+    });
+}
+
+Contestant textbook_volume()
+{
+    return by_textbook([](const Case &c) { return textbook::volume(c.points, c.reference); });
 }
 
 peer::Points doubles(const std::vector<Point> &points)
@@ -197,17 +211,27 @@ peer::Points doubles(const std::vector<Point> &points)
 
 std::vector<double> doubles(const Point &p) { return {p.begin(), p.end()}; }
 
-Contestant peer_recount()
+template <class Ask> Contestant by_peer(Ask ask)
 {
     auto ready = std::make_shared<std::unique_ptr<peer::Ready>>();
     auto prepare = [ready](std::size_t, const Case &c) {
         *ready = std::make_unique<peer::Ready>(doubles(c.points), doubles(c.reference));
     };
-    auto run = [ready](std::size_t) {
-        std::vector<double> all = (*ready)->contributions();
-        found = *std::min_element(all.begin(), all.end());
-    };
+    auto run = [ready, ask](std::size_t) { found = ask(**ready); };
     return {1, prepare, run};
+}
+
+Contestant peer_recount()
+{
+    return by_peer([](const peer::Ready &ready) {
+        std::vector<double> all = ready.contributions();
+        return *std::min_element(all.begin(), all.end());
+    });
+}
+
+Contestant peer_total()
+{
+    return by_peer([](const peer::Ready &ready) { return ready.total(); });
 }
 
 Contestant peer_reduction()
@@ -272,6 +296,19 @@ Tally peer_contributions(const std::vector<Case> &cases)
             tally.add(right(all[i], c.exact[i]), error <= 1e-12 * total);
         }
     }
+    return tally;
+}
+
+double peer_volume(const Case &c)
+{
+    return peer::Ready(doubles(c.points), doubles(c.reference)).total();
+}
+
+Tally peer_volumes(const std::vector<Case> &cases)
+{
+    Tally tally;
+    for (const Case &c : cases)
+        tally.add(right(peer_volume(c), c.exact[0]), false);
     return tally;
 }
 
@@ -356,14 +393,20 @@ const std::string one_grid = "grid";
 const std::string reducing = "reduce";
 const std::string card_written = "card written";
 const std::string one_report = "report";
+const std::string in_doubles = "volume in doubles";
 
 // Coordinates that many points share.
 const std::uint32_t coarse = 32;
 
+// The largest cube of at most 2^53 cells, which a double can count.
+const std::uint32_t countable = 208063;
+
 class Benchmark
 {
 public:
-    explicit Benchmark(bool quick) : effort(quick ? Effort{4, 12, 1, 0.05} : Effort{8, 300, 5, 1.0})
+    // With a call, its rows alone.
+    Benchmark(bool quick, const std::string &call)
+        : effort(quick ? Effort{4, 12, 1, 0.05} : Effort{8, 300, 5, 1.0}), only(call)
     {
     }
 
@@ -403,12 +446,21 @@ public:
             plain(card_written, card_write, &Story::card_written, kind, 8);
         for (Kind kind : kinds)
             plain(one_report, report, &Story::report, kind, 8);
+        for (Kind kind : kinds)
+            volumes(kind);
+        if (rows.empty())
+            throw std::runtime_error("no such call: " + only);
         notes();
-        smallest();
+        if (wanted(in_doubles))
+            distances(kinds);
+        if (wanted(all_contributions))
+            smallest();
         targets();
     }
 
 private:
+    bool wanted(const std::string &call) const { return only.empty() || call == only; }
+
     static Story agreed_story(const Set &set)
     {
         Story story(set);
@@ -435,9 +487,20 @@ private:
                 compare(*library, card_load, "small card", {story.card()});
                 compare(*library, card_write, "small card written", {story.card_written()});
                 compare(*library, report, "small report", {story.report()});
+                compare(*library, volume, "small volume", {story.volume(), layered(seed)});
                 compare_no(*library, {story.audit()});
             }
         }
+    }
+
+    // Points that share z's, some of them past the reference, in a box that no double can count.
+    static Case layered(std::uint64_t seed)
+    {
+        Set set = make_set(Kind::uniform, 2 + seed % 23, TA_MAX_REFERENCE, false, seed);
+        for (Point &p : set.points)
+            p[2] -= p[2] % 99991;
+        set.reference[seed % 3] = 700001;
+        return volume_of(set);
     }
 
     const std::vector<Story> &stories(Kind kind, std::size_t size, std::uint32_t scale)
@@ -486,6 +549,8 @@ private:
 
     void audits(Kind kind, std::size_t size, std::uint32_t scale, const std::string &set)
     {
+        if (!wanted(all_contributions))
+            return;
         std::vector<Case> asked = cases(kind, size, scale, std::mem_fn(&Story::audit));
         compare_no(archive, asked);
         compare_no(yardstick, asked);
@@ -497,6 +562,8 @@ private:
     void updates(const std::string &call, Task task, Case (Story::*tell)() const, Kind kind,
                  std::size_t size, std::size_t trials)
     {
+        if (!wanted(call))
+            return;
         std::vector<Case> asked = cases(kind, size, TA_MAX_REFERENCE, std::mem_fn(tell));
         Tally tally = call == three_calls ? peer_least(asked) : peer_contributions(asked);
         Row r{call, name(kind), std::to_string(trials), {}, {}, {}, {}, tally};
@@ -506,6 +573,8 @@ private:
     // The textbook's way is slow from 512 trials; it is measured from 64 alone.
     void reductions(Kind kind, std::size_t from, std::size_t keep)
     {
+        if (!wanted(reducing))
+            return;
         std::vector<Case> asked =
             cases(kind, from, TA_MAX_REFERENCE,
                   [keep = keep](const Story &s) { return s.reduction(keep); });
@@ -519,8 +588,64 @@ private:
     void plain(const std::string &call, Task task, Case (Story::*tell)() const, Kind kind,
                std::size_t batch)
     {
+        if (!wanted(call))
+            return;
         std::vector<Case> asked = cases(kind, 512, TA_MAX_REFERENCE, std::mem_fn(tell));
         row(Row{call, name(kind), "512", {}, {}, {}, {}, {}}, task, batch, asked, nullptr, nullptr);
+    }
+
+    void volumes(Kind kind)
+    {
+        if (!wanted(in_doubles))
+            return;
+        std::vector<Case> asked = cases(kind, 512, TA_MAX_REFERENCE, std::mem_fn(&Story::volume));
+        Row r{in_doubles, name(kind), "512", {}, {}, {}, {}, peer_volumes(asked)};
+        row(r, volume, 8, asked, made(textbook_volume()), made(peer_total()));
+    }
+
+    // How far the volumes are from the exact count.
+    void distances(const std::vector<Kind> &kinds)
+    {
+        std::cout << "\nVolumes in doubles, 512 points: cells between the figure and the exact "
+                     "count, the median of the sets and in brackets the least and the most. "
+                     "Promised of the archive: 0 where the box has at most 2^53 cells, else at "
+                     "most 192 a point.\n\n"
+                     "| set | reference | archive, cells off | pagmo, cells off |\n"
+                     "|---|---|---|---|\n";
+        for (std::uint32_t scale : {countable, std::uint32_t{TA_MAX_REFERENCE}})
+            for (Kind kind : kinds)
+                distance(kind, scale);
+    }
+
+    void distance(Kind kind, std::uint32_t scale)
+    {
+        Samples own, pagmo;
+        std::vector<Case> asked = cases(kind, 512, scale, std::mem_fn(&Story::volume));
+        compare(archive, volume, in_doubles, asked);
+        compare(yardstick, volume, in_doubles, asked);
+        for (const Case &c : asked) {
+            ta_volume_answer answer = ta_volume(c.corner, c.doubles.data(), c.doubles.size());
+            own.add(cells_off(answer.volume, c.exact[0]));
+            pagmo.add(cells_off(peer_volume(c), c.exact[0]));
+        }
+        if (own.at(1) > (scale <= countable ? 0 : 192 * 512))
+            throw std::runtime_error("archive is too far from the count: " + in_doubles);
+        std::cout << "| " << name(kind) << " | " << scale << " | " << whole_spread(own) << " | "
+                  << whole_spread(pagmo) << " |" << std::endl;
+    }
+
+    // A long double has all digits of both.
+    static double cells_off(double figure, Count exact)
+    {
+        return static_cast<double>(std::fabs(static_cast<long double>(figure) - exact));
+    }
+
+    static std::string whole_spread(const Samples &cells)
+    {
+        char text[96];
+        std::snprintf(text, sizeof text, "%.0f (%.0f–%.0f)", cells.median(), cells.at(0),
+                      cells.at(1));
+        return text;
     }
 
     static void notes()
@@ -530,8 +655,8 @@ private:
                      "of the other one in a column of ratios.\n"
                      "pagmo wrong: contributions for all contributions, insertion and removal; "
                      "least contributors "
-                     "for the three calls; drops for reduce. A contribution below 2^53 is compared "
-                     "exactly, a "
+                     "for the three calls; drops for reduce; totals for volume in doubles. A count "
+                     "below 2^53 is compared exactly, a "
                      "larger one to a relative 1e-9; by rounding: the error is at most 1e-12 of "
                      "the total.\n";
     }
@@ -561,6 +686,8 @@ private:
     void target(const std::string &what, const std::vector<double> &ratios, bool at_most,
                 double bound) const
     {
+        if (ratios.empty())
+            return;
         double worst = at_most ? *std::max_element(ratios.begin(), ratios.end())
                                : *std::min_element(ratios.begin(), ratios.end());
         bool met = at_most ? worst <= bound : worst >= bound;
@@ -608,9 +735,12 @@ private:
                against_peer(all_contributions, "512", false), false, 6);
         target(reducing + " 512 → 1, pagmo ÷ archive", against_peer(reducing, "512 → 1", true),
                false, 40);
+        target(in_doubles + " at 512, pagmo ÷ archive", against_peer(in_doubles, "512", true),
+               false, 1);
     }
 
     Effort effort;
+    std::string only;
     std::map<std::tuple<Kind, std::size_t, std::uint32_t>, std::vector<Story>> told;
     std::vector<Row> rows;
 };
@@ -619,13 +749,15 @@ private:
 
 int main(int argc, char **argv)
 {
-    bool quick = argc == 2 && std::strcmp(argv[1], "--quick") == 0;
-    if (argc > 1 && !quick) {
-        std::cerr << "usage: driver [--quick]\n";
+    std::vector<std::string> asked(argv + 1, argv + argc);
+    bool quick = !asked.empty() && asked[0] == "--quick";
+    asked.erase(asked.begin(), asked.begin() + quick);
+    if (asked.size() > 1 || (asked.size() == 1 && asked[0][0] == '-')) {
+        std::cerr << "usage: driver [--quick] [CALL]\n";
         return 2;
     }
     try {
-        Benchmark(quick).run();
+        Benchmark(quick, asked.empty() ? "" : asked[0]).run();
     } catch (const std::exception &trouble) {
         std::cerr << "benchmarks: " << trouble.what() << '\n';
         return 1;

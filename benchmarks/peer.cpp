@@ -22,6 +22,8 @@ Ready::Ready(const Points &points, const std::vector<double> &reference)
 
 Ready::~Ready() = default;
 
+double Ready::total() const { return inside->set.compute(inside->reference); }
+
 std::vector<double> Ready::contributions() const
 {
     return inside->set.contributions(inside->reference);

@@ -21,6 +21,7 @@ public:
     Ready(const Ready &) = delete;
     Ready &operator=(const Ready &) = delete;
 
+    double total() const;
     std::vector<double> contributions() const;
     std::size_t least() const;
     double exclusive(std::size_t index) const;

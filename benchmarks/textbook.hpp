@@ -5,7 +5,9 @@
 #include "data.hpp"
 
 #include <algorithm>
+#include <iterator>
 #include <numeric>
+#include <set>
 
 namespace textbook
 {
@@ -86,6 +88,43 @@ inline std::vector<Count> alone(const std::vector<Point> &points, Point referenc
         }
     }
     return result;
+}
+
+// The cells of one layer that some point dominates. The points ascend on x; any may be past the
+// reference.
+inline Count area(const std::vector<Point> &points, Point reference, std::uint32_t layer)
+{
+    std::uint32_t from = 0, least = reference[1];
+    Count area = 0;
+    for (const Point &p : points) {
+        if (p[0] >= reference[0])
+            break;
+        if (p[2] > layer || p[1] >= least)
+            continue;
+        area += Count(p[0] - from) * (reference[1] - least);
+        from = p[0];
+        least = p[1];
+    }
+    return area + Count(reference[0] - from) * (reference[1] - least);
+}
+
+// The volume in doubles: for each distinct z below the reference's, ascending, area times height is
+// added. A product is exact in whole numbers and is rounded as it becomes a double; the sum is
+// rounded again.
+inline double volume(std::vector<Point> points, Point reference)
+{
+    std::sort(points.begin(), points.end());
+    std::set<std::uint32_t> layers;
+    for (const Point &p : points)
+        if (p[2] < reference[2])
+            layers.insert(p[2]);
+    double sum = 0;
+    for (auto layer = layers.begin(); layer != layers.end(); ++layer) {
+        auto next = std::next(layer);
+        std::uint32_t top = next != layers.end() ? *next : reference[2];
+        sum += static_cast<double>(area(points, reference, *layer) * (top - *layer));
+    }
+    return sum;
 }
 
 // How many points no other one beats, being at most equal on all axes and smaller on at least one.

@@ -42,7 +42,7 @@
  *   other calls are as ever.
  *
  * ANSWERS AND REFUSALS
- *   Every call ends, with any words, any card and any arguments, in the
+ *   Every call ends, with any words, doubles, card and arguments, in the
  *   answer described or in one of the refusals below. A call that has nothing
  *   else to answer returns the refusal number, 0 (TA_DONE) when done. A struct
  *   has the refusal first, 0 when done. On a refusal all other fields are
@@ -61,6 +61,8 @@
  *       C, before the call; the library cannot see it.
  *   So round doubles and look at their range first. gcc's -Wconversion and
  *   -Wsign-conversion name the places where C converts.
+ *   ta_volume alone takes doubles. It judges them as they are, and refuses (19)
+ *   what is not whole or out of range.
  *
  * LENT MEMORY
  *   - The slices lent to one call share no memory.
@@ -68,15 +70,15 @@
  *     length is 0. For a length of 0 pass the address of any object of that
  *     type; it is neither read nor written. malloc(0) may return a null
  *     pointer, so allocate at least one element.
- *   - A length counts elements (words or bytes) of one object, all of which
- *     the caller may read and, where the pointer is not const, write.
+ *   - A length counts elements (words, doubles or bytes) of one object, all of
+ *     which the caller may read and, where the pointer is not const, write.
  *   - Nobody else writes a lent slice while the call runs, nor reads one
  *     that the call writes.
  *
  * THREADS, MEMORY AND STACK
  *   The library has no global state, allocates nothing, and does no input or
  *   output. Calls that share no lent memory may run at the same time, and so
- *   may calls that only read the same archive.
+ *   may calls that only read the same archive or the same doubles.
  *   A call needs a few tens of KiB of stack, at most TA_STACK_BYTES; see docs.
  *
  * EXAMPLE
@@ -147,6 +149,10 @@ extern "C" {
 #define TA_MAX_COORDINATE 1048576
 #define TA_MAX_NUMBER 9999999
 
+/* How many points ta_volume takes. Its reference and coordinates have an
+   archive's limits. */
+#define TA_MAX_POINTS 512
+
 /* The stack that any one call stays below, in bytes. bench/stack.c measures it. */
 #define TA_STACK_BYTES 49152
 
@@ -181,9 +187,9 @@ extern "C" {
 
 /*
  * The refusals. Rows are checked in this order, save that ta_start checks 4
- * before 1, ta_replace_effect 9 before 6, 17 comes first, and 18 right after 3.
- * ta_start and ta_card_load check neither 2 nor 3; for them row 1 is a slice shorter
- * than 8 + 5 * the capacity given.
+ * before 1, ta_replace_effect 9 before 6, ta_volume 20 before 19, 17 comes
+ * first, and 18 right after 3. ta_start and ta_card_load check neither 2 nor 3;
+ * for them row 1 is a slice shorter than 8 + 5 * the capacity given.
  */
 enum {
     /* Not a refusal: the call is done. */
@@ -225,11 +231,17 @@ enum {
     /* Report: output shorter than 53 * (count + 1) bytes. Card-write: output
        shorter than 33 * (count + 1) bytes. */
     TA_OUTPUT_SHORT = 16,
-    /* Insert-grid: slice length not a multiple of four. Checked first. */
+    /* Insert-grid: slice length not a multiple of four. Volume: slice length
+       not a multiple of three. Checked first. */
     TA_BAD_LENGTH = 17,
     /* Least, reduce: a tie rule that is neither 0 nor 1. Checked after row 3
        and before 11, 12, 13 and 14. */
-    TA_BAD_RULE = 18
+    TA_BAD_RULE = 18,
+    /* Volume: a double that is not a whole number, in the reference from 1 to
+       1,048,576, in a point from 0 to 1,048,576; minus zero is zero. */
+    TA_BAD_DOUBLE = 19,
+    /* Volume: more than 512 points. Checked before 19. */
+    TA_TOO_MANY_POINTS = 20
 };
 
 /* The tie rules: which of several least contributors goes, the one with the
@@ -271,6 +283,19 @@ typedef struct ta_load_answer {
     uint64_t line;
     uint64_t count;
 } ta_load_answer;
+
+/* The reference corner of a volume. */
+typedef struct ta_corner {
+    double x;
+    double y;
+    double z;
+} ta_corner;
+
+/* A refusal, or 0 and a volume. */
+typedef struct ta_volume_answer {
+    uint64_t refusal;
+    double volume;
+} ta_volume_answer;
 
 /*
  * Writes an empty archive into the first 8 + 5 * capacity words. What they
@@ -421,6 +446,36 @@ ta_answer ta_card_write(const uint64_t *words, size_t len,
  */
 ta_answer ta_report(const uint64_t *words, size_t len,
                     uint8_t *out, size_t out_len);
+
+/*
+ * The volume of some points in double precision, to stand beside the figures of
+ * codes that compute in doubles. No archive takes part, and nothing is written.
+ * There are three doubles to a point, x, y, z, and at most TA_MAX_POINTS points;
+ * len is in doubles.
+ *
+ * All doubles are whole: the reference's 1 to 1,048,576, the points' 0 to
+ * 1,048,576 whatever the reference. Minus zero counts as zero. Equal and
+ * dominated points are allowed, and so are points at the reference or past it,
+ * which dominate nothing.
+ *
+ * The sum starts at zero. For each distinct z below the reference's, ascending,
+ * area * height is added to it. The z's are those of any point given, also of
+ * one past the reference on x or y. The area is the number of cells of layer z
+ * that some point dominates; the height runs to the next such z, or to the
+ * reference's. Product and sum are rounded once each, in two steps. No points
+ * give +0.
+ *
+ * The volume is a whole number. Where the box is at most 2^53, it equals the
+ * number of cells that some point dominates, which is the total of an archive
+ * of these points; otherwise it lies within 192 * points of that number.
+ *
+ * C's default floating-point environment is assumed: the rounding mode is to
+ * nearest, ties to even, no subnormal is taken for zero, no exception trapped.
+ * The call may raise floating-point flags.
+ * Refusals, in this order: 17, 20, 19. The volume is then +0.
+ */
+ta_volume_answer ta_volume(ta_corner reference,
+                           const double *points, size_t len);
 
 #ifdef __cplusplus
 }

@@ -31,7 +31,8 @@
 //! ```
 //!
 //! [`Archive`] owns its memory. The functions of [`words`] work on memory that the caller lends,
-//! and [`sys`] is the bare C interface.
+//! and [`sys`] is the bare C interface. [`volume()`] is the figure in double precision, to stand
+//! beside those of codes that compute in doubles; it needs no archive.
 //!
 //! # Building and testing
 //!
@@ -60,11 +61,13 @@ mod archive;
 mod refusal;
 mod rule;
 pub mod sys;
+mod volume;
 pub mod words;
 
 pub use archive::{Archive, Contribution, Filled, Trial};
 pub use refusal::{CardRefusal, Refusal};
 pub use rule::TieRule;
+pub use volume::volume;
 
 /// Judges a card without an archive, as [`Archive::load_card`] would.
 pub fn check_card(card: &[u8]) -> Result<(), CardRefusal> {

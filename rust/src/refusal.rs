@@ -45,14 +45,20 @@ pub enum Refusal {
     /// 33 × (count + 1) bytes.
     OutputShort = 16,
     /// Insert-grid: slice length not a multiple of four. Only the bare C interface can be given one.
+    /// Volume: slice length not a multiple of three.
     BadLength = 17,
     /// Least, reduce: a tie rule that is neither 0 nor 1. Only the bare C interface can be given one.
     BadRule = 18,
+    /// Volume: a double that is not a whole number, in the reference from 1 to 1,048,576, in a point
+    /// from 0 to 1,048,576; minus zero is zero.
+    BadDouble = 19,
+    /// Volume: more than 512 points.
+    TooManyPoints = 20,
 }
 
 impl Refusal {
     /// Every refusal, in the order of the table.
-    pub const ALL: [Refusal; 18] = [
+    pub const ALL: [Refusal; 20] = [
         Refusal::SliceShort,
         Refusal::BadHeader,
         Refusal::BadRecords,
@@ -71,6 +77,8 @@ impl Refusal {
         Refusal::OutputShort,
         Refusal::BadLength,
         Refusal::BadRule,
+        Refusal::BadDouble,
+        Refusal::TooManyPoints,
     ];
 
     /// The number of its row.
@@ -111,8 +119,10 @@ impl fmt::Display for Refusal {
             Refusal::NoneHeld => "no trial held",
             Refusal::CardForm => "card line not of the form",
             Refusal::OutputShort => "output too short",
-            Refusal::BadLength => "length not a multiple of four",
+            Refusal::BadLength => "length not that of whole trials or points",
             Refusal::BadRule => "tie rule neither 0 nor 1",
+            Refusal::BadDouble => "a double not whole or out of range",
+            Refusal::TooManyPoints => "more than 512 points",
         })
     }
 }

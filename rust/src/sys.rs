@@ -47,6 +47,23 @@ pub struct LoadAnswer {
     pub count: u64,
 }
 
+/// The reference corner of a volume.
+#[repr(C)]
+#[derive(Clone, Copy, Debug, PartialEq)]
+pub struct Corner {
+    pub x: f64,
+    pub y: f64,
+    pub z: f64,
+}
+
+/// A refusal, or 0 and a volume.
+#[repr(C)]
+#[derive(Clone, Copy, Debug, PartialEq)]
+pub struct VolumeAnswer {
+    pub refusal: u64,
+    pub volume: f64,
+}
+
 extern "C" {
     pub fn ta_start(words: *mut u64, len: usize, rx: u64, ry: u64, rz: u64, capacity: u64) -> u64;
 
@@ -101,4 +118,6 @@ extern "C" {
     pub fn ta_card_write(words: *const u64, len: usize, out: *mut u8, out_len: usize) -> Answer;
 
     pub fn ta_report(words: *const u64, len: usize, out: *mut u8, out_len: usize) -> Answer;
+
+    pub fn ta_volume(reference: Corner, points: *const f64, len: usize) -> VolumeAnswer;
 }

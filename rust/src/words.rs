@@ -2,6 +2,7 @@
 //!
 //! The slice may hold anything and may be longer than the archive; words from
 //! 8 + 5 × capacity on are neither read nor written. The crate's documentation has the layout.
+//! [`volume`] takes doubles and no archive.
 
 use crate::refusal::{CardRefusal, Refusal};
 use crate::sys;
@@ -137,6 +138,17 @@ pub fn report(words: &[u64], out: &mut [u8]) -> Result<u64, Refusal> {
     // SAFETY: pointers and lengths are those of two slices borrowed for the call, the second
     // mutably, which therefore share no memory.
     value(unsafe { sys::ta_report(words.as_ptr(), words.len(), out.as_mut_ptr(), out.len()) })
+}
+
+/// The volume of points in double precision, as [`crate::volume()`] gives it, from a slice with three
+/// doubles to a point. A length that is not a multiple of three is [`Refusal::BadLength`].
+pub fn volume(reference: [f64; 3], points: &[f64]) -> Result<f64, Refusal> {
+    let [x, y, z] = reference;
+    let reference = sys::Corner { x, y, z };
+    // SAFETY: pointer and length are those of one slice borrowed for the call.
+    let answer = unsafe { sys::ta_volume(reference, points.as_ptr(), points.len()) };
+    Refusal::check(answer.refusal)?;
+    Ok(answer.volume)
 }
 
 fn value(answer: sys::Answer) -> Result<u64, Refusal> {

@@ -500,6 +500,76 @@ fn row_18_of_least_and_reduce() {
     }
 }
 
+/// Document 02, W-207: 17, then 20, then 19, by the length first whatever the doubles are.
+#[test]
+fn rows_of_volume() {
+    let volume = |reference, points: &[f64], row| {
+        let call = Call::Volume { reference, points: points.to_vec() };
+        let answer = expect(&call, &[], row).answer;
+        assert!(row == 0 || answer[1] == 0, "a refusal has the volume +0");
+    };
+    let good = [4.0; 3];
+    for length in (0..=12).chain(1_530..=1_545).chain([1_023, 1_024, 3_072, 4_608, 4_609]) {
+        let row = match length {
+            _ if length % 3 != 0 => 17,
+            1_537.. => 20,
+            _ => 0,
+        };
+        let bad = if row == 0 { 19 } else { row };
+        volume(good, &vec![1.0; length], row);
+        for double in [f64::NAN, f64::INFINITY, -1.0, 0.5, 1_048_577.0] {
+            for axis in 0..3 {
+                let mut reference = good;
+                reference[axis] = double;
+                volume(reference, &vec![1.0; length], bad);
+                volume(reference, &vec![double; length], bad);
+            }
+            if length == 0 {
+                continue;
+            }
+            volume(good, &vec![double; length], bad);
+            for at in [0, length / 2, length - 1] {
+                let mut points = vec![1.0; length];
+                points[at] = double;
+                volume(good, &points, bad);
+            }
+        }
+    }
+}
+
+/// Both sides of each limit, whole numbers and the doubles next to them, one place at a time.
+#[test]
+fn row_19_of_volume() {
+    let most = MAX_COORDINATE as f64;
+    let next = |double: f64| {
+        [-1, 1].map(|step| f64::from_bits(double.to_bits().wrapping_add_signed(step)))
+    };
+    let whole = [1.0, 2.0, 3.0, 4.0, 5.0, 65_535.0, 65_536.0, most - 1.0, most];
+    let above = [most + 1.0, 2.0 * most, 2_f64.powi(32), 2_f64.powi(32) + 1.0, 2_f64.powi(52)];
+    for at in 0..9 {
+        let expect_row = |double: f64, row| {
+            let mut doubles = [4.0, 4.0, 4.0, 1.0, 2.0, 3.0, 2.0, 1.0, 0.0];
+            doubles[at] = double;
+            let [x, y, z] = [doubles[0], doubles[1], doubles[2]];
+            let call = Call::Volume { reference: [x, y, z], points: doubles[3..].to_vec() };
+            expect(&call, &[], row);
+        };
+        for double in whole {
+            expect_row(double, 0);
+            expect_row(-double, 19);
+            next(double).into_iter().for_each(|beside| expect_row(beside, 19));
+        }
+        for double in above {
+            expect_row(double, 19);
+            expect_row(-double, 19);
+        }
+        for zero in [0.0, -0.0] {
+            expect_row(zero, if at < 3 { 19 } else { 0 });
+            expect_row(f64::from_bits(zero.to_bits() + 1), 19);
+        }
+    }
+}
+
 /// Ties of every size, by both rules.
 #[test]
 fn ties_by_both_rules() {

@@ -2,9 +2,9 @@
 //! fenced memory, and by the safe functions. Answers and all lent memory must agree, that which
 //! is only read included. The safe functions take coordinates of 32 bits, one of the two tie rules
 //! and grids of whole trials; a call with wider ones, another rule or another length is made two
-//! ways.
+//! ways. Doubles are compared by their bits.
 
-use crate::reference::{calls, cards, Point};
+use crate::reference::{calls, cards, volume, Point};
 use std::collections::BTreeMap;
 use trial_archive::{check_card, sys, words, CardRefusal, Refusal, TieRule};
 
@@ -25,6 +25,7 @@ pub enum Call {
     Load { card: Vec<u8> },
     WriteCard { out: Vec<u8> },
     Report { out: Vec<u8> },
+    Volume { reference: [f64; 3], points: Vec<f64> },
 }
 
 impl Call {
@@ -45,6 +46,7 @@ impl Call {
             Call::Load { .. } => "load",
             Call::WriteCard { .. } => "write_card",
             Call::Report { .. } => "report",
+            Call::Volume { .. } => "volume",
         }
     }
 
@@ -60,12 +62,15 @@ impl Call {
     }
 
     /// Whether the call's point, or a trial that the words hold, has a coordinate beyond the
-    /// words' reference.
+    /// words' reference; of a volume, one of its points beyond its own.
     fn meets_beyond(&self, words: &[u64]) -> bool {
         let past = |p: &[u64]| (0..3).any(|axis| p[axis] > words[2 + axis]);
         match self {
             Call::Start { .. } | Call::Check { .. } | Call::Load { .. } => false,
             Call::InsertGrid { grid } => grid.chunks_exact(4).any(|t| past(&t[1..])),
+            Call::Volume { reference, points } => {
+                points.chunks_exact(3).any(|p| (0..3).any(|axis| p[axis] > reference[axis]))
+            }
             Call::Insert { point, .. }
             | Call::Gain { point }
             | Call::ReplaceEffect { point, .. } => past(point),
@@ -104,6 +109,12 @@ impl Call {
 fn fours(grid: &[u64]) -> Option<&[[u64; 4]]> {
     let (fours, rest) = grid.as_chunks();
     rest.is_empty().then_some(fours)
+}
+
+/// The points of three doubles each, where their number is a multiple of three.
+fn threes(points: &[f64]) -> Option<&[[f64; 3]]> {
+    let (threes, rest) = points.as_chunks();
+    rest.is_empty().then_some(threes)
 }
 
 /// Words that hold anything, to be lent.
@@ -238,11 +249,14 @@ impl Tally {
     }
 }
 
-/// What is lent beside the words: the log or the grid, the output and the card.
+/// What is lent beside the words: the log, the grid or the bits of points, the output and the card.
 fn lists(call: &Call) -> (Vec<u64>, Vec<u8>, Vec<u8>) {
     match call {
         Call::Reduce { log, .. } => (log.clone(), Vec::new(), Vec::new()),
         Call::InsertGrid { grid } => (grid.clone(), Vec::new(), Vec::new()),
+        Call::Volume { points, .. } => {
+            (points.iter().map(|double| double.to_bits()).collect(), Vec::new(), Vec::new())
+        }
         Call::WriteCard { out } | Call::Report { out } => (Vec::new(), out.clone(), Vec::new()),
         Call::Check { card } | Call::Load { card } => (Vec::new(), Vec::new(), card.clone()),
         _ => (Vec::new(), Vec::new(), Vec::new()),
@@ -281,6 +295,9 @@ fn by_reference(call: &Call, lent: &[u64]) -> Outcome {
         },
         Call::WriteCard { .. } => double(cards::write(&words, &mut out)),
         Call::Report { .. } => double(calls::report(&words, &mut out)),
+        Call::Volume { reference, points } => {
+            double(volume::volume(*reference, points).map(f64::to_bits))
+        }
     };
     Outcome { answer, words, log, out, card }
 }
@@ -391,6 +408,12 @@ fn by_c(call: &Call, lent: &[u64]) -> Outcome {
                 let out_len = out.len();
                 fields(sys::ta_report(words.ptr(), len, out.mut_ptr(), out_len))
             }
+            Call::Volume { reference: [x, y, z], .. } => {
+                let reference = sys::Corner { x: *x, y: *y, z: *z };
+                // Words and doubles have the same size and alignment.
+                let answer = sys::ta_volume(reference, log.ptr().cast(), log.len());
+                vec![answer.refusal, answer.volume.to_bits()]
+            }
         }
     };
     Outcome { answer, words: words.open(), log: log.open(), out: out.open(), card: card.open() }
@@ -439,6 +462,13 @@ fn by_safe(call: &Call, lent: &[u64]) -> Outcome {
         },
         Call::WriteCard { .. } => double(numbered(words::write_card(&memory, &mut out))),
         Call::Report { .. } => double(numbered(words::report(&memory, &mut out))),
+        Call::Volume { reference, points } => {
+            let volume = match threes(points) {
+                Some(threes) => trial_archive::volume(*reference, threes),
+                None => words::volume(*reference, points),
+            };
+            double(numbered(volume).map(f64::to_bits))
+        }
     };
     Outcome { answer, words: memory, log, out, card }
 }

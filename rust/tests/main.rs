@@ -16,5 +16,6 @@ mod replacing;
 mod rng;
 mod scenes;
 mod shares;
+mod volumes;
 mod wrapper;
 mod written;

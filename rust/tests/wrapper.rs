@@ -1,6 +1,6 @@
-//! What the owning archive adds to the calls.
+//! What the owning archive and the other safe functions add to the calls.
 
-use trial_archive::{Archive, Refusal, TieRule, Trial};
+use trial_archive::{volume, words, Archive, Refusal, TieRule, Trial};
 
 #[test]
 fn start_out_of_range_allocates_nothing_for_it() {
@@ -96,10 +96,27 @@ fn tie_rules() {
     assert_eq!(numbers(archive.reduce_by(1, TieRule::Highest).unwrap()), [9, 7, 5]);
 }
 
+/// As points and as a slice of doubles, which alone can have a length that is not of points.
+#[test]
+fn volumes_both_ways() {
+    let points = [[1.0, 2.0, 2.0], [2.0, 1.0, 2.0], [2.0, 2.0, 1.0], [1.0, 1.0, 3.0]];
+    let flat = points.as_flattened();
+    let reference = [4.0, 4.0, 4.0];
+    assert_eq!(volume(reference, &points), Ok(21.0));
+    assert_eq!(words::volume(reference, flat), Ok(21.0));
+    assert_eq!(volume(reference, &[]), Ok(0.0));
+    assert_eq!(words::volume(reference, &flat[..11]), Err(Refusal::BadLength));
+    assert_eq!(volume(reference, &[[0.0; 3]; 512]), Ok(64.0));
+    assert_eq!(volume(reference, &[[0.0; 3]; 513]), Err(Refusal::TooManyPoints));
+    assert_eq!(volume(reference, &[[0.0, 0.5, 0.0]]), Err(Refusal::BadDouble));
+    // Three numbers that differ stand for x, y and z.
+    assert_eq!(volume([3.0, 5.0, 7.0], &[[1.0, 2.0, 4.0]]), Ok(18.0));
+}
+
 #[test]
 fn refusals_have_their_numbers() {
     let numbers: Vec<u64> = Refusal::ALL.iter().map(|r| r.number()).collect();
-    assert_eq!(numbers, (1..=18).collect::<Vec<u64>>());
+    assert_eq!(numbers, (1..=20).collect::<Vec<u64>>());
     for refusal in Refusal::ALL {
         assert_eq!(Refusal::from_number(refusal.number()), Some(refusal));
     }
@@ -107,5 +124,5 @@ fn refusals_have_their_numbers() {
     let mut texts: Vec<String> = Refusal::ALL.iter().map(Refusal::to_string).collect();
     texts.sort();
     texts.dedup();
-    assert_eq!(texts.len(), 18);
+    assert_eq!(texts.len(), 20);
 }

@@ -13,10 +13,10 @@ use Rattle.hypervolume.specs.Cells.{holds}
 use Rattle.hypervolume.specs.Front.{beats, beaten, unbeaten, front}
 use Rattle.hypervolume.proofs.Tests.{by-order}
 use Rattle.hypervolume.proofs.Front.{unbeaten-append}
-use Rattle.order.specs.Order.{sum-of, Ordered}
+use Rattle.order.specs.Order.{sum-of, some, Ordered}
 use Rattle.order.proofs.Sums.{sum-append, sum-next}
-use Rattle.front.specs.Keys.{InOrder, key-at, some, under, over, Sieved, nothing, kept, left, alone}
-use Rattle.front.proofs.Somes.{Found, found, some-at, some-append, some-ordered}
+use Rattle.front.specs.Keys.{InOrder, key-at, under, over, Sieved, nothing, kept, left, alone}
+use Rattle.order.proofs.Somes.{Found, found, some-at, some-append, some-ordered}
 use Rattle.front.proofs.Places.{Over, is-over, over-trans, beats-over, over-beats}
 
 -- Two tests that pass together are equal.

@@ -14,7 +14,8 @@ use Rattle.slices.specs.Choices.{both, either, pick}
 use Rattle.slices.proofs.Spread.{zeros-at}
 use Rattle.hypervolume.specs.Cells.{holds}
 use Rattle.hypervolume.proofs.Tests.{by-order, holds-le-one}
-use Rattle.front.specs.Keys.{InOrder, some, under, alone}
+use Rattle.order.specs.Order.{some}
+use Rattle.front.specs.Keys.{InOrder, under, alone}
 use Rattle.front.specs.Levels.{least-of, y-of, behind, Bounded, Extra, Lowered, Entered, Level, least-before, Empty}
 
 module _ (y : ℕ → ℕ) where

@@ -1,5 +1,4 @@
--- Laws of the keys: tests over a list, places of equal points, what is beaten by keys, and the count over keys in order.
-mod Somes
+-- Laws of the keys: places of equal points, what is beaten by keys, and the count over keys in order.
 mod Places
 mod Counting
 mod Levels

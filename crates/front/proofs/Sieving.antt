@@ -12,11 +12,11 @@ use borrow.Author.Tests.{leb-true, ltb-true, eqb-true, eq-eqb, ne-eqb, le-leb}
 use Rattle.slices.specs.Choices.{both, either, pick}
 use Rattle.slices.proofs.Choices.{both-true}
 use Rattle.hypervolume.proofs.Tests.{by-order}
-use Rattle.order.specs.Order.{Orderable, Ordered}
-use Rattle.front.specs.Keys.{x-at, y-at, standing, InOrder, first-at, key-at, some, over, Sieved, nothing, kept, left}
+use Rattle.order.specs.Order.{some, Orderable, Ordered}
+use Rattle.front.specs.Keys.{x-at, y-at, standing, InOrder, first-at, key-at, over, Sieved, nothing, kept, left}
 use Rattle.front.specs.Levels.{Placed}
 use Rattle.front.specs.declared.Best.{Best}
-use Rattle.front.proofs.Somes.{Found, found, some-at, some-append, some-ordered}
+use Rattle.order.proofs.Somes.{Found, found, some-at, some-append, some-ordered}
 use Rattle.front.proofs.Places.{over-is, first-low, first-rises, small-at, key-place, key-x, key-y}
 
 -- A key kept is the one of the best.

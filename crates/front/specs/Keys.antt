@@ -2,13 +2,14 @@
 -- earlier, and is not its equal, is at most it on x and y.
 use Prim.Native.Nat.{ℕ, zero, suc, _+_, _*_, _/_, _%_, _≤_, _<_}
 use mathlib.Core.Path.{_≡_}
-use mathlib.Core.Bool.{Bool, true, false, not}
+use mathlib.Core.Bool.{Bool, true, not}
 use mathlib.Core.List.{List, _∷_, _++_, []}
 use lib.Dec.{leb, ltb, eqb}
 use lib.ListN.{length, getD, take}
-use Rattle.slices.specs.Choices.{both, either, pick}
+use Rattle.slices.specs.Choices.{both, pick}
 use Rattle.hypervolume.specs.Cells.{holds}
 use Rattle.hypervolume.specs.Sorted.{Small}
+use Rattle.order.specs.Order.{some}
 
 -- A coordinate of the point at a place.
 abbrev pub x-at : List (List ℕ) → ℕ → ℕ
@@ -39,11 +40,6 @@ first-at points (suc i) = pick (eqb (standing points i) (standing points (suc i)
 -- The key of the point at a place: x, then that first place.
 abbrev pub key-at : List (List ℕ) → ℕ → ℕ
 key-at points i = x-at points i * 512 + first-at points i
-
--- Whether some number of the list passes a test.
-unfoldable pub some : (ℕ → Bool) → List ℕ → Bool
-some f [] = false
-some f (k ∷ l) = either (f k) (some f l)
 
 -- By their keys: b stands earlier than k and is at most it on y.
 unfoldable pub under : List (List ℕ) → ℕ → ℕ → Bool

@@ -2,5 +2,5 @@
 -- `hypervolume`. Front: the counts in the slice that the caller lends.
 pub mod Coordinates
 pub mod Front
-mod Layers
+pub mod Layers
 mod SweepLaws

@@ -5,6 +5,8 @@ use calls::Change;
 use calls::GridAnswer;
 use calls::LeastAnswer;
 use card::Loaded;
+use volume::Corner;
+use volume::VolumeAnswer;
 ghost use mathlib.Core.Path.{_≡_};
 ghost use Rattle.calls.specs.Lent.{start, insert, remove, least, reduce, joint, gain-answer, share, audit, trial-of, shape-of, MeetsOutcome};
 ghost use Rattle.calls.specs.Grid.{insert-grid};
@@ -12,6 +14,7 @@ ghost use Rattle.calls.specs.Replacement.{replace-effect};
 ghost use Rattle.card.specs.Card.{load};
 ghost use Rattle.card.specs.Check.{check};
 ghost use Rattle.reports.specs.Report.{report, reported};
+ghost use Rattle.volume.specs.Volume.{volume, answer-of};
 ghost use Rattle.writing.specs.Written.{write, written};
 
 #[no_mangle]
@@ -117,4 +120,11 @@ pub extern "C" fn ta_card_write(words: &[u64], out: &mut [u8]) -> Answer
     ensures { λ r. ⌜ (r ≡ write (now (words .entry)) (now (out .entry))) × (now (out .exit) ≡ written (now (words .entry)) (now (out .entry))) ⌝ }
 {
     writing::write(words, out)
+}
+
+#[no_mangle]
+pub extern "C" fn ta_volume(reference: Corner, points: &[f64]) -> VolumeAnswer
+    ensures { λ r. ⌜ r ≡ answer-of (volume reference (now (points .entry))) ⌝ }
+{
+    volume::volume_answer(reference, points)
 }

@@ -32,7 +32,7 @@ unfolding within
 bounds-within low high n l h = both-intro (leb low n) (leb n high) (le-leb low n l) (le-leb n high h)
 
 -- Numbers that are each within bounds, by place; a place that the list lacks counts as 0.
-each-bounds : (low high : ℕ) (l : List ℕ) → each (within low high) l ≡ true → (i : ℕ) → (i < length l → low ≤ getD l i 0) × (getD l i 0 ≤ high)
+pub each-bounds : (low high : ℕ) (l : List ℕ) → each (within low high) l ≡ true → (i : ℕ) → (i < length l → low ≤ getD l i 0) × (getD l i 0 ≤ high)
 unfolding each
 each-bounds low high [] e i = (λ m. absurd (let no : ⊥ = omega arith in no), zero-le)
 each-bounds low high (n ∷ l) e zero =

@@ -1,0 +1,2 @@
+-- Laws of one more point.
+pub mod Growing

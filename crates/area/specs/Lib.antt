@@ -1,0 +1,2 @@
+-- The area that points cover, seen along z.
+pub mod Area

@@ -1,0 +1,2 @@
+-- Whole numbers in double precision.
+pub mod Doubles

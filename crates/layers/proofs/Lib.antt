@@ -1,0 +1,2 @@
+-- The laws of layers.
+pub mod Layers

@@ -1,0 +1,2 @@
+-- The layers that a set of points makes.
+pub mod Layers
