@@ -1,20 +1,19 @@
 -- A double read as a whole number: what lies outside -1 to 2 ^ 64 is none, and what is read is what the double is.
-use Prim.Native.Nat.{ℕ, zero, suc, _+_, _-_, _*_, _/_, _^_, _≤_, _<_, min}
+use Prim.Native.Nat.{ℕ, _+_, _-_, _*_, _/_, _^_, _≤_, _<_, min}
 use mathlib.Core.Path.{_≡_, refl, sym, ap, _∙_, subst}
 use mathlib.Core.Bool.{Bool, true, false, not, _&&_, _||_, true≢false}
 use native.Mathlib.Nat.{le-trans, le-of-eq, lt-of-lt-of-le, mul-one, one-mul, zero-mul, mul-pos, lt-irrefl, add-comm, le-add-left, le-div-iff-mul-le, mul-div-cancel, mul-right-comm, eq-of-mul-eq-mul-right}
 use native.Mathlib.Omega.{arith}
 use lib.Dec.{T, leb, ltb, eqb, nltb→le, eqb→eq, le→leb, lit<, lit≤, not-T}
-use lib.Arith.{lt→nleb}
 use lib.IntN.{pos}
 use lib.Ieee.{Float, nan, inf, fin, binary64, up, down, lt, eq, toUnsigned, ofInt, round, level, inFloat}
-use lib.Ieee.Bits.{is-true, is-false}
+use lib.Ieee.Bits.{is-false}
 use lib.Ieee.Fits.{down-pos}
 use lib.Ieee.Exact.{HasValue}
 use lib.Ieee.Back.{round-whole}
 use borrow.Author.Tests.{le-leb, lt-leb, leb-true, eq-eqb, eqb-true}
 use Rattle.slices.specs.Choices.{both, pick}
-use Rattle.slices.proofs.Choices.{both-comm, both-true, both-intro}
+use Rattle.slices.proofs.Choices.{both-comm, both-true}
 use Rattle.doubles.specs.Doubles.{Whole, number-of, double, IsNumber, plain, minus-zero, ReadsNumbers}
 
 double-zero : double 0 ≡ fin false 0 (pos 0)

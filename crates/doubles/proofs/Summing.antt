@@ -52,6 +52,10 @@ sum-exact s a (l ∷ ls) v f h =
 
 -- ---- within 192 a layer
 
+-- At most so far apart, whichever is named first.
+pub within-turned : (m n d : ℕ) → Within m n d → Within n m d
+within-turned m n d w = record { above = w .below; below = w .above }
+
 -- q is within 64 of p and t within 128 of m + q, m being within 192 * i of a
 one-more : (a m p q t i : ℕ) → Within m a (192 * i) → Half q p (2 ^ 7) → Half t (m + q) (2 ^ 8) → Within t (a + p) (192 * (i + 1))
 one-more a m p q t i u v w =

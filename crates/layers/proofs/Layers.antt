@@ -1,21 +1,21 @@
 -- The layers add up to the total.
 use Prim.Native.Nat.{ℕ, zero, suc, _+_, _-_, _*_, _≤_, _<_, zero-le}
 use mathlib.Core.Path.{_≡_, refl, sym, ap, _∙_, fun-ext}
-use mathlib.Core.Bool.{Bool, true, false, true≢false}
+use mathlib.Core.Bool.{Bool, true, false}
 use mathlib.Core.List.{List, _∷_, _++_, []}
 use native.Mathlib.Nat.{add-assoc, add-zero, mul-comm, suc-add, zero-add}
 use native.Mathlib.Decide.{decLe}
 use native.Mathlib.Omega.{arith}
 use lib.Dec.{leb, eqb}
 use lib.ListN.{length, getD}
-use borrow.Author.Tests.{le-leb, lt-leb, ne-eqb, eqb-true, eqb-false}
+use borrow.Author.Tests.{le-leb, lt-leb, eqb-false}
 use Rattle.slices.specs.Choices.{both, either, pick}
 use Rattle.slices.proofs.Choices.{both-comm, either-false}
 use Rattle.hypervolume.specs.Cells.{holds, dominates, sum, cells, count, box}
 use Rattle.hypervolume.specs.Counts.{cover, total}
 use Rattle.hypervolume.proofs.Sums.{sum-ext, sum-none, sum-swap, sum-steady, cells-none}
 use Rattle.hypervolume.proofs.Counting.{count-le-box}
-use Rattle.hypervolume.proofs.Tests.{Compared, compared, below, above, Equated, equated, same, differs, holds-le-one}
+use Rattle.hypervolume.proofs.Tests.{Compared, compared, below, above, Equated, equated, same, holds-le-one}
 use Rattle.layers.specs.Layers.{begins, those, levels, area-at, next-level, Layer, layers-at, layers, cells-of, LayersAddUp}
 
 -- ---- the last axis

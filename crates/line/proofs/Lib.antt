@@ -6,6 +6,6 @@ pub mod Flags
 pub mod Entries
 pub mod ColumnLaws
 mod RankLaws
-mod PlaceLaws
+pub mod PlaceLaws
 mod ThinLaws
 mod EnterLaws

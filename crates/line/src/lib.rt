@@ -147,7 +147,7 @@ fn thin(line: &mut [u64], m: usize, at: usize, next: u64) -> Gap
 }
 
 // Moves the entries from `from` up to m down to `to`, and answers where they end.
-fn close(line: &mut [u64], to: usize, from: usize, m: usize) -> usize
+pub fn close(line: &mut [u64], to: usize, from: usize, m: usize) -> usize
     requires { ⌜ (to ≤ from) × (from ≤ m) × (m ≤ length (now line)) ⌝ }
     ensures { λ r. ⌜ Closed (now (line .entry)) to from m (now (line .exit)) r ⌝ }
 {
@@ -160,7 +160,7 @@ fn close(line: &mut [u64], to: usize, from: usize, m: usize) -> usize
 }
 
 // Puts the entry in at `at`, among the first m.
-fn place(line: &mut [u64], m: usize, at: usize, entry: u64)
+pub fn place(line: &mut [u64], m: usize, at: usize, entry: u64)
     requires { ⌜ (at ≤ m) × (m < length (now line)) ⌝ }
     ensures { λ _. ⌜ now (line .exit) ≡ put (now (line .entry)) at (entry ∷ take (m - at) (drop at (now (line .entry)))) ⌝ }
 {

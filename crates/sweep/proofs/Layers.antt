@@ -34,7 +34,7 @@ unfoldable pub LineCoversAt : ℕ → ℕ → List ℕ → List ℕ → Type 0
 LineCoversAt ry t line trial = (i j : ℕ) → j < ry → over line (i ∷ j ∷ []) ≤ 1 → over-by t line (i ∷ j ∷ []) ≡ holds (dominates trial (i ∷ j ∷ []))
 
 -- Counts of a layer, cell by cell.
-count-layer : (rx ry : ℕ) (p q : List ℕ → Bool) → ((i j : ℕ) → j < ry → p (i ∷ j ∷ []) ≡ q (i ∷ j ∷ [])) → count (rx ∷ ry ∷ []) p ≡ count (rx ∷ ry ∷ []) q
+pub count-layer : (rx ry : ℕ) (p q : List ℕ → Bool) → ((i j : ℕ) → j < ry → p (i ∷ j ∷ []) ≡ q (i ∷ j ∷ [])) → count (rx ∷ ry ∷ []) p ≡ count (rx ∷ ry ∷ []) q
 unfolding count cells
 count-layer rx ry p q h =
     sum-ext rx _ _ (λ i l. sum-ext ry _ _ (λ j m. ap holds (h i j m)))

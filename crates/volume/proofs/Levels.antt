@@ -7,21 +7,20 @@ use native.Mathlib.Nat.{sub-zero, mul-one, mul-le-mul, sub-self}
 use native.Mathlib.Decide.{decLe}
 use native.Mathlib.Numerals.{add-one}
 use native.Mathlib.Omega.{arith}
-use lib.Dec.{leb, ltb, eqb}
+use lib.Dec.{leb, eqb}
 use lib.ListN.{length, take, getD}
 use lib.Ieee.{Float}
 use borrow.Author.Tests.{le-leb, lt-leb, lt-ltb, le-ltb, eq-eqb, ne-eqb}
 use Rattle.slices.specs.Choices.{both, pick}
 use Rattle.slices.proofs.Choices.{both-comm}
 use Rattle.hypervolume.specs.Cells.{holds, dominates, count, box}
-use Rattle.hypervolume.specs.Counts.{cover, total, gain}
-use Rattle.hypervolume.specs.Sorted.{Small}
+use Rattle.hypervolume.specs.Counts.{cover, total}
 use Rattle.hypervolume.proofs.Counting.{total-more, total-none, total-le-box}
 use Rattle.layers.specs.Layers.{begins, those, levels, area-at, next-level, layers-at, layers}
 use Rattle.layers.proofs.Layers.{dominates-last, cells-alike, those-from}
 use Rattle.order.specs.Order.{sum-of}
 use Rattle.order.proofs.Sums.{sum-next}
-use Rattle.area.specs.Area.{Lined, spot, Kept, Growing, Grew}
+use Rattle.area.specs.Area.{spot, Stairs, Lined, Growing, Grew}
 use Rattle.area.proofs.Growing.{none-kept, none-lined}
 use Rattle.doubles.specs.Doubles.{zero-double, with-layer, sum-from}
 use Rattle.volume.specs.Volume.{figure-of}
@@ -138,7 +137,7 @@ pub record Layering (points : List (List ℕ)) (keys : List ℕ) (rx ry rz : ℕ
   pub level : z ≡ level-at keys i rz
   pub few : m ≤ i
   pub long : length line ≡ 512
-  pub kept : Kept (take m line)
+  pub kept : Stairs (take m line)
   pub lined : Lined ry (passed points keys i) (take m line)
   pub counted : area ≡ total (rx ∷ ry ∷ []) (passed points keys i)
   pub left : sum-from sum (layers-at (rx ∷ ry ∷ []) rz points (those (begins 2 points) z (rz - z))) ≡ sum-from zero-double (layers (rx ∷ ry ∷ []) rz points)

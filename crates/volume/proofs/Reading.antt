@@ -1,6 +1,6 @@
 -- The points read from doubles, three to a point, and their keys.
 use Prim.Native.Nat.{ℕ, zero, suc, _+_, _*_, _/_, _%_, _≤_, _<_}
-use mathlib.Core.Path.{_≡_, refl, sym, ap, _∙_}
+use mathlib.Core.Path.{_≡_, refl, sym, _∙_}
 use mathlib.Core.Bool.{Bool, true, false}
 use mathlib.Core.List.{List, _∷_, map, []}
 use native.Mathlib.Decide.{decLe}
@@ -14,7 +14,7 @@ use Rattle.words.specs.Format.{within, each}
 use Rattle.words.proofs.Passed.{each-bounds, each-three}
 use Rattle.doubles.specs.Doubles.{number-of}
 use Rattle.volume.specs.Volume.{points-of}
-use Rattle.volume.specs.Layering.{Readable, Keyed, Few, Loaded}
+use Rattle.volume.specs.Layering.{Readable, Loaded}
 
 -- A point of three numbers, each judged.
 pub allowed-is : (test : ℕ → Bool) (p : List ℕ) → length p ≡ 3 → both (test (getD p 0 0)) (both (test (getD p 1 0)) (test (getD p 2 0))) ≡ each test p

@@ -1,6 +1,6 @@
 -- How close the figure is (document 02, W-207): "It equals the cell count when the box is at most 2^53. Otherwise it lies within
 -- 192 × points of it, both read as whole numbers." The proof is in proofs/Precision.
-use Prim.Native.Nat.{ℕ, _*_, _^_, _≤_}
+use Prim.Native.Nat.{_*_, _^_, _≤_}
 use mathlib.Core.Path.{_≡_}
 use mathlib.Core.List.{List, []}
 use lib.ListN.{length}

@@ -1,9 +1,8 @@
--- `grow` meets its contract: the steps of a sweep for one point, no layer deep.
-use lib.ListN.{length, getD}
-use lib.Seq.{length-take-le}
-use mathlib.Core.Path.{refl, sym}
+-- `grow` meets its contract: the point is covered, or takes the place of those that it covers.
+use mathlib.Core.Path.{sym}
 use native.Mathlib.Omega.{arith}
-use Rattle.area.proofs.Growing.{growing-rising, growing-at, growing-flags, growing-crossing, growing-entering, grew}
+use lib.Seq.{length-take-le}
+use Rattle.area.proofs.Growing.{growing-rising, growing-at, growing-falls, left-out, growing-crossing, growing-end, grew}
 use borrow.Author.Needs.{needs}
 use Rattle.area.proofs.grow.Statement.{statement}
 use Rattle.area.proofs.grow.Tie as tie
@@ -36,56 +35,67 @@ rank-requires c κs = (growing-rising (start (c .before) .pre), start (c .before
 abbrev ranked : tie.After-rank → tie.Start
 ranked c = start (c .before .before)
 
-slice-reshare-prefix-look-back : tie.Need-slice-reshare-prefix-look-back
-slice-reshare-prefix-look-back c = growing-at (ranked c .pre) (c .rank .ensures)
+slice-reshare-prefix-top : tie.Need-slice-reshare-prefix-top
+slice-reshare-prefix-top c = growing-at (ranked c .pre) (c .rank .ensures)
 
-slice-aggregate-look-back : tie.Need-slice-aggregate-look-back
-slice-aggregate-look-back c = sym (length-take-le _ _ (growing-at (ranked (c .before) .pre) (c .before .rank .ensures)))
+slice-aggregate-top : tie.Need-slice-aggregate-top
+slice-aggregate-top c = sym (length-take-le _ _ (growing-at (ranked (c .before) .pre) (c .before .rank .ensures)))
 
-look-back-requires : tie.Need-look-back-requires
-look-back-requires c κs = growing-flags (ranked (c .before) .pre) (c .before .rank .ensures)
+top-requires : tie.Need-top-requires
+top-requires c κs = growing-falls (ranked (c .before) .pre) (c .before .rank .ensures)
 
-slice-reshare-prefix-strips : tie.Need-slice-reshare-prefix-strips
-slice-reshare-prefix-strips c = omega (arith, ranked (c .before .before) .pre .room)
-
-slice-aggregate-strips : tie.Need-slice-aggregate-strips
-slice-aggregate-strips c = sym (length-take-le _ _ (omega (arith, ranked (c .before .before .before) .pre .room)))
-
-slice-aggregate-strips-2 : tie.Need-slice-aggregate-strips-2
-slice-aggregate-strips-2 c = search needs
-
--- where the point belongs, and the column there
-abbrev looked : tie.After-untouched → tie.After-look-back
-looked c = c .before .before
-
-abbrev placed : tie.After-look-back → tie.After-rank
-placed c = c .before .before
-
-strips-requires : tie.Need-strips-requires
-strips-requires c κs =
-    let place = placed (looked c) in
-    growing-crossing (ranked place .pre) (place .rank .ensures) refl (looked c .look-back .ensures)
-
-entry-requires : tie.Need-entry-requires
-entry-requires c κs =
-    let pre = ranked (placed (looked (c .before .before .before))) .pre in
-    (pre .small 0, pre .small 1, omega arith)
-
-enter-requires : tie.Need-enter-requires
-enter-requires c κs =
-    let place = placed (looked (c .before .before .before .before)) in
-    growing-entering (ranked place .pre) (place .rank .ensures) (c .entry .ensures)
+-- where the point belongs
+abbrev place : tie.After-top → tie.After-rank
+place c = c .before .before
 
 same-length : tie.Need-same-length
 same-length c = search needs
 
 returns : tie.Need-returns
 returns c passed l =
-    let entered = c .before .before in
-    let crossed = entered .before .before .before .before in
-    let seen = looked (crossed .before) in
-    let place = placed seen in
-    grew (ranked place .pre) l (entered .before .entry .ensures) (crossed .strips .ensures) (entered .enter .ensures _ (seen .look-back .ensures .state))
+    let here = place (c .before) in
+    left-out (ranked here .pre) (here .rank .ensures) (c .before .top .ensures) (c .if1 .taken) l
+
+slice-reshare-prefix-cross : tie.Need-slice-reshare-prefix-cross
+slice-reshare-prefix-cross c = omega (arith, ranked (place (c .before)) .pre .room)
+
+slice-aggregate-cross : tie.Need-slice-aggregate-cross
+slice-aggregate-cross c = sym (length-take-le _ _ (omega (arith, ranked (place (c .before .before)) .pre .room)))
+
+cross-requires : tie.Need-cross-requires
+cross-requires c κs =
+    let open′ = c .before in
+    let here = place (open′ .before) in
+    growing-crossing (ranked here .pre) (here .rank .ensures) (open′ .before .top .ensures) (open′ .if1 .left)
+
+-- the point is not covered
+abbrev crossed : tie.After-entry → tie.After-cross
+crossed c = c .before .before
+
+abbrev higher : tie.After-cross → tie.Else1
+higher c = c .before .before
+
+entry-requires : tie.Need-entry-requires
+entry-requires c κs =
+    let pre = ranked (place (higher (c .before) .before)) .pre in
+    (pre .small 0, pre .small 1, omega arith)
+
+replace-requires : tie.Need-replace-requires
+replace-requires c κs =
+    let pre = ranked (place (higher (crossed c) .before)) .pre in
+    let answer = crossed c .cross .ensures in
+    (answer .front, growing-end pre (answer .within), pre .room)
+
+same-length-2 : tie.Need-same-length-2
+same-length-2 c = search needs
+
+returns-2 : tie.Need-returns-2
+returns-2 c passed l =
+    let replaced = c .before .before in
+    let entered = replaced .before in
+    let open′ = higher (crossed entered) in
+    let here = place (open′ .before) in
+    grew (ranked here .pre) (here .rank .ensures) (open′ .before .top .ensures) (open′ .if1 .left) (crossed entered .cross .ensures) (entered .entry .ensures) (replaced .replace .ensures .0) (replaced .replace .ensures .1) l
 
 pub grow-spec : {M : Type 1} → statement M
 grow-spec =
@@ -98,14 +108,15 @@ grow-spec =
     slice-reshare-prefix-rank
     slice-aggregate-rank
     rank-requires
-    slice-reshare-prefix-look-back
-    slice-aggregate-look-back
-    look-back-requires
-    slice-reshare-prefix-strips
-    slice-aggregate-strips
-    slice-aggregate-strips-2
-    strips-requires
-    entry-requires
-    enter-requires
+    slice-reshare-prefix-top
+    slice-aggregate-top
+    top-requires
     same-length
-    returns)
+    returns
+    slice-reshare-prefix-cross
+    slice-aggregate-cross
+    cross-requires
+    entry-requires
+    replace-requires
+    same-length-2
+    returns-2)

@@ -1,12 +1,11 @@
 -- `doubles::number` meets its contract.
-use mathlib.Core.Path.{_≡_, sym, subst, ap, _∙_}
+use mathlib.Core.Path.{_≡_, sym, subst, _∙_}
 use mathlib.Core.Bool.{true, false}
 use Prim.Native.Nat.{ℕ, _≤_, _<_}
 use native.Mathlib.Nat.{le-trans}
-use borrow.Author.Needs.{needs}
 use lib.Dec.{T, lit≤}
 use lib.Ieee.{ofBits, neg, eq}
-use Rattle.doubles.specs.Doubles.{number-of, double}
+use Rattle.doubles.specs.Doubles.{double}
 use Rattle.doubles.proofs.Reading.{castable, read-yes, read-other, read-large, read-above, read-below}
 use Rattle.doubles.proofs.number.Statement.{statement}
 use Rattle.doubles.proofs.number.Tie as tie
