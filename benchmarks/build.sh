@@ -41,7 +41,7 @@ compile() {
 }
 
 build_driver() {
-    rustc --edition 2021 --crate-type staticlib -C opt-level=3 -D warnings benchmarks/archive.rs -o "$out/libyardstick.a"
+    rustc --edition 2021 --crate-type staticlib -C opt-level=3 -C codegen-units=1 -D warnings benchmarks/archive.rs -o "$out/libyardstick.a"
     compile -c benchmarks/peer.cpp -o "$out/peer.o"
     compile -c benchmarks/driver.cpp -o "$out/driver.o"
     g++ "$out/driver.o" "$out/peer.o" "$out/libyardstick.a" "$lib" -lpagmo -lboost_serialization -lpthread -ldl -o "$out/driver"
