@@ -35,7 +35,7 @@ volume-rows r ds =
     (guard (not (both (each (within 1 1048576) (corner r)) (each (within 0 1048576) (map number-of ds)))) 19 0))
 
 -- "The sum starts at zero. For each distinct z below the reference, of any point given, ascending, the slice's area is multiplied by
--- its height and the product added, each step rounded once."
+-- its height and the product added, each step rounded once." The layers along z, below rx and ry.
 unfoldable pub figure-of : (reference : List ℕ) → List (List ℕ) → Float
 figure-of reference points = sum-from zero-double (layers (take 2 reference) (getD reference 2 0) points)
 

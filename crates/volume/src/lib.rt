@@ -178,7 +178,7 @@ pub fn measure(reference: Corner, points: &[f64]) -> Volume
     figure(points, corner)
 }
 
-// The numbers of each case.
+// The number and the value of each case.
 pub fn answer(v: Volume) -> VolumeAnswer
     ensures { λ r. ⌜ r ≡ answer-of v ⌝ }
 {
@@ -194,7 +194,7 @@ pub fn answer(v: Volume) -> VolumeAnswer
     }
 }
 
-// The same for C.
+// The call as C has it.
 pub fn volume_answer(reference: Corner, points: &[f64]) -> VolumeAnswer
     ensures { λ r. ⌜ r ≡ answer-of (volume reference (now (points .entry))) ⌝ }
 {
