@@ -1,7 +1,6 @@
--- Laws of the reading, of the layers in turn, and of the figure's precision.
-mod Reading
+-- Laws of the reading, of the points by their keys, of the layers in turn, and of how the call ends.
+pub mod Reading
 mod Keys
 mod Levels
-mod Outcomes
-pub mod Precision
+pub mod Outcomes
 mod Examples

@@ -20,12 +20,12 @@ use Rattle.layers.specs.Layers.{begins, levels, Layer, layers-at, layers, cells
 use Rattle.layers.proofs.Layers.{AllFit, layers-fit, those-none, add-up}
 use Rattle.doubles.specs.Doubles.{Whole, number-of, zero-double, sum-from, About}
 use Rattle.doubles.proofs.Summing.{exact, close}
 use Rattle.volume.specs.declared.Corner.{Corner}
 use Rattle.volume.specs.declared.Volume.the-variants.{Cells}
 use Rattle.volume.specs.Volume.{corner, points-of, volume-rows, figure-of, figure, volume-or, volume}
-use Rattle.volume.specs.Precision.{VolumeIsPrecise}
+use Rattle.precision.specs.Precision.{VolumeIsPrecise}
 use Rattle.volume.proofs.Reading.{points-many}
 use Rattle.volume.proofs.Outcomes.{corner-small}
 
 answers : (r : Corner) (ds : List Float) → volume-rows r ds ≡ 0 → volume r ds ≡ Cells (figure r ds)
 unfolding volume volume-or

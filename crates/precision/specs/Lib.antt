@@ -1,0 +1,2 @@
+-- How close the volume in doubles is.
+pub mod Precision

@@ -1,0 +1,1 @@
+// How close the volume in doubles is to the count of cells: definitions and proofs, no code.
