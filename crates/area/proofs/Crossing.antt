@@ -45,6 +45,12 @@ unfolding over dominates both
 over-at line i j a l m n =
     tally-at (λ w. dominates (spot w) (i ∷ j ∷ [])) line a l (rw (le-leb (x-of (getD line a 0)) i m, le-leb (y-of (getD line a 0)) j n))
 
+-- The front of stairs.
+pub front-falls : (line : List ℕ) (k : ℕ) → Falling line → Falling (take k line)
+front-falls line k f a b m n =
+    let inside : b < k = omega (arith, length-take k line) in
+    rw (getD-take k line b 0 inside, getD-take k line a 0 (let i : a < k = omega arith in i)) (f a b m (omega (arith, length-take k line)))
+
 pub topped-none : (ry : ℕ) (line : List ℕ) → length line ≡ 0 → Topped ry line ry
 unfolding low tally
 topped-none ry [] e = record { most = omega arith; free = λ j l. refl; full = λ j l m. absurd (let no′ : ⊥ = omega arith in no′) }
@@ -187,9 +193,6 @@ module _ {line : List ℕ} {at top x y rx ry column from gain k : ℕ} (h : Walk
     pub next-clear : (a : ℕ) → k ≤ a → a < length line → next ≤ x-of (getD line a 0)
     next-clear a m n = omega (arith, rising-pair 0 line (h .asked .stairs .rising) k a m n)
 
-    falls : (a : ℕ) → k < a → a < length line → y-of (getD line a 0) < y-of (getD line k 0)
-    falls a m n = h .asked .stairs .falling k a m n
-
     pub walking-stop : {all : ℕ} → all ≡ gain + (next - from) * (column - y) → y-of (getD line k 0) < y → Crossed line at x y rx ry all k
     walking-stop {all} f g =
         record {
@@ -208,7 +211,7 @@ module _ {line : List ℕ} {at top x y rx ry column from gain k : ℕ} (h : Walk
         }
       where
         below : (a : ℕ) → a < length line → Dec (k < a) → k ≤ a → y-of (getD line a 0) < y
-        below a n (yes o) m = omega (arith, falls a o n)
+        below a n (yes o) m = omega (arith, h .asked .stairs .falling k a o n)
         below a n (no o) m = let same : a ≡ k = omega arith in rw same g
 
     pub walking-more : {more column′ : ℕ} → more ≡ gain + (next - from) * (column - y) → column′ ≡ min (y-of (getD line k 0)) ry → y ≤ y-of (getD line k 0) → Walking line at top x y rx ry column′ next more (k + 1)
@@ -221,7 +224,7 @@ module _ {line : List ℕ} {at top x y rx ry column from gain k : ℕ} (h : Walk
           bound = next-most;
           reached = λ a m. reached′ a (decLe (suc a) k) m;
           ahead = λ a m n. next-clear a (omega arith) n;
-          topped = topped-last ry (take (k + 1) line) k column′ front-falls (rw (length-take-le (k + 1) line (omega arith)) (omega arith)) (rw (getD-take (k + 1) line k 0 (omega arith)) d);
+          topped = topped-last ry (take (k + 1) line) k column′ (front-falls line (k + 1) (h .asked .stairs .falling)) (rw (length-take-le (k + 1) line (omega arith)) (omega arith)) (rw (getD-take (k + 1) line k 0 (omega arith)) d);
           higher = omega (arith, h .asked .above, h .asked .topped .most);
           covered = λ a m n. covered′ a (decLe (suc a) k) m n;
           gained = f ∙ strip next next-on next-most next-clear;
@@ -234,9 +237,3 @@ module _ {line : List ℕ} {at top x y rx ry column from gain k : ℕ} (h : Walk
         covered′ : (a : ℕ) → Dec (a < k) → at ≤ a → a < k + 1 → y ≤ y-of (getD line a 0)
         covered′ a (yes o) m n = h .covered a m o
         covered′ a (no o) m n = let same : a ≡ k = omega arith in rw same g
-
-        front-falls : Falling (take (k + 1) line)
-        front-falls a b m n =
-            let inside : b < k + 1 = omega (arith, length-take (k + 1) line) in
-            rw (getD-take (k + 1) line b 0 inside, getD-take (k + 1) line a 0 (let i : a < k + 1 = omega arith in i))
-            (h .asked .stairs .falling a b m (omega (arith, length-take (k + 1) line)))

@@ -21,7 +21,7 @@ use Rattle.line.proofs.Entries.{covers-further, take-drop}
 use Rattle.line.proofs.Tally.{tally-none, column-least, over-append, over-cons}
 use Rattle.strips.specs.Strips.{gain-over}
 use Rattle.sweep.proofs.Layers.{count-layer}
-use Rattle.area.proofs.Crossing.{low-at}
+use Rattle.area.proofs.Crossing.{low-at, front-falls}
 use Rattle.area.specs.Area.{spot, Falling, Stairs, Lined, Topped, Crossing, Crossed, Growing, Grew}
 
 -- No point passed.
@@ -54,11 +54,6 @@ falling-cons w t g h zero zero l m = absurd (let no′ : ⊥ = omega arith in no
 falling-cons w t g h zero (suc b) l m = h b (omega arith)
 falling-cons w t g h (suc a) zero l m = absurd (let no′ : ⊥ = omega arith in no′)
 falling-cons w t g h (suc a) (suc b) l m = g a b (omega arith) (omega arith)
-
-pub front-falls : (line : List ℕ) (k : ℕ) → Falling line → Falling (take k line)
-front-falls line k f a b m n =
-    let inside : b < k = omega (arith, length-take k line) in
-    rw (getD-take k line b 0 inside, getD-take k line a 0 (let i : a < k = omega arith in i)) (f a b m (omega (arith, length-take k line)))
 
 back-falls : (line : List ℕ) (k : ℕ) → Falling line → Falling (drop k line)
 back-falls line k f a b m n =
