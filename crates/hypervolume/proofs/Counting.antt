@@ -4,16 +4,15 @@ use Prim.Native.Nat.{ℕ, zero, suc, _+_, _-_, _*_, _≤_, _<_}
 use mathlib.Core.Path.{_≡_, refl, sym, ap, _∙_, fun-ext}
 use mathlib.Core.Bool.{Bool, true, false}
 use mathlib.Core.List.{List, _∷_, _++_, map, []}
-use native.Mathlib.Nat.{zero-add, add-zero, sub-zero, zero-mul}
-use native.Mathlib.Decide.{decLe}
+use native.Mathlib.Nat.{zero-add, add-zero, sub-zero}
 use native.Mathlib.Numerals.{one-add}
 use native.Mathlib.Omega.{arith}
 use lib.Dec.{leb, eqb, eqb·suc-suc}
 use borrow.Author.Tests.{le-leb, lt-leb, ne-eqb}
 use Rattle.slices.specs.Choices.{both}
-use Rattle.hypervolume.specs.Cells.{holds, dominates, join, sum, cells, count, box, edges}
+use Rattle.hypervolume.specs.Cells.{holds, dominates, join, cells, count, box, edges}
 use Rattle.hypervolume.specs.Counts.{cover, total, contribution, joint, gain}
-use Rattle.hypervolume.proofs.Sums.{sum-none, sum-steady, cells-ext, cells-add, cells-le, cells-none}
+use Rattle.hypervolume.proofs.Sums.{sum-cut, cells-ext, cells-add, cells-le, cells-none}
 use Rattle.hypervolume.proofs.Tests.{holds-le-one}
 use Rattle.hypervolume.proofs.Dominance.{dominates-join, within, cover-append, cover-joins, Among, first, rest, at-most, at-most-dominates}
 use Rattle.slices.proofs.Choices.{both-intro}
@@ -170,24 +169,10 @@ gain-twice r trials s h = count-none r _ (λ c. twice-not 0 (omega arith) (domin
 -- Law 8. What a point dominates is its edge product; every count is at most the box.
 pub layered : (r z : ℕ) (rs : List ℕ) (f g : List ℕ → ℕ) → ((i : ℕ) (c : List ℕ) → i < z → f (i ∷ c) ≡ 0) → ((i : ℕ) (c : List ℕ) → z ≤ i → f (i ∷ c) ≡ g c) → cells (r ∷ rs) f ≡ (r - z) * cells rs g
 unfolding cells
-layered r z rs f g low high = go (decLe z r)
-  where
-    layer : ℕ → ℕ
-    layer i = cells rs (λ c. f (i ∷ c))
-
-    empty : (i : ℕ) → i < z → layer i ≡ 0
-    empty i l = cells-ext rs (λ c. f (i ∷ c)) (λ c. 0) (λ c. low i c l) ∙ cells-none rs
-
-    go : Dec (z ≤ r) → sum r layer ≡ (r - z) * cells rs g
-    go (yes l) =
-        let steady : sum r layer ≡ sum z layer + (r - z) * cells rs g =
-        sum-steady layer (cells rs g) z r l (λ i p q. cells-ext rs (λ c. f (i ∷ c)) g (λ c. high i c p)) in
-        let nothing : sum z layer ≡ 0 = sum-none z layer empty in
-        omega arith
-    go (no l) =
-        let nothing : sum r layer ≡ 0 = sum-none r layer (λ i q. empty i (omega arith)) in
-        let cut : r - z ≡ 0 = omega arith in
-        rw (nothing, cut, zero-mul)
+layered r z rs f g low high =
+    sum-cut r z (cells rs g) (λ i. cells rs (λ c. f (i ∷ c)))
+    (λ i l. cells-ext rs (λ c. f (i ∷ c)) (λ c. 0) (λ c. low i c l) ∙ cells-none rs)
+    (λ i l. cells-ext rs (λ c. f (i ∷ c)) g (λ c. high i c l))
 
 pub edges-count : (r p : List ℕ) → count r (dominates p) ≡ edges r p
 unfolding count edges cells dominates holds both

@@ -6,6 +6,7 @@ pub mod Counting
 pub mod Beyond
 pub mod Skips
 pub mod Axes
+pub mod Last
 pub mod Front
 pub mod Points
 pub mod Examples

@@ -71,6 +71,20 @@ sum-steady f k a (suc b) l h = go (λ m. sum-steady f k a b m (λ i p q. h i p (
         let same : a ≡ suc b = omega arith in
         rw (same, sub-self, zero-mul, add-zero)
 
+-- Nothing before z, and from z on constant.
+pub sum-cut : (r z k : ℕ) (f : ℕ → ℕ) → ((i : ℕ) → i < z → f i ≡ 0) → ((i : ℕ) → z ≤ i → f i ≡ k) → sum r f ≡ (r - z) * k
+sum-cut r z k f low high = go (decLe z r)
+  where
+    go : Dec (z ≤ r) → sum r f ≡ (r - z) * k
+    go (yes l) =
+        let steady : sum r f ≡ sum z f + (r - z) * k = sum-steady f k z r l (λ i p q. high i p) in
+        let nothing : sum z f ≡ 0 = sum-none z f low in
+        omega arith
+    go (no l) =
+        let nothing : sum r f ≡ 0 = sum-none r f (λ i q. low i (omega arith)) in
+        let cut : r - z ≡ 0 = omega arith in
+        rw (nothing, cut, zero-mul)
+
 -- Sums over cells.
 pub cells-ext : (r : List ℕ) (f g : List ℕ → ℕ) → ((c : List ℕ) → f c ≡ g c) → cells r f ≡ cells r g
 cells-ext r f g h = ap (cells r) (fun-ext h)

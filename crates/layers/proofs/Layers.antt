@@ -1,6 +1,6 @@
 -- The layers add up to the total.
 use Prim.Native.Nat.{ℕ, zero, suc, _+_, _-_, _*_, _≤_, _<_, zero-le}
-use mathlib.Core.Path.{_≡_, refl, sym, ap, _∙_, fun-ext}
+use mathlib.Core.Path.{_≡_, refl, sym, ap, _∙_}
 use mathlib.Core.Bool.{Bool, true, false}
 use mathlib.Core.List.{List, _∷_, _++_, []}
 use native.Mathlib.Nat.{add-assoc, add-zero, mul-comm, suc-add, zero-add}
@@ -8,46 +8,18 @@ use native.Mathlib.Decide.{decLe}
 use native.Mathlib.Omega.{arith}
 use lib.Dec.{leb, eqb}
 use lib.ListN.{length, getD}
-use borrow.Author.Tests.{le-leb, lt-leb, eqb-false}
-use Rattle.slices.specs.Choices.{both, either, pick}
-use Rattle.slices.proofs.Choices.{both-comm, either-false}
-use Rattle.hypervolume.specs.Cells.{holds, dominates, sum, cells, count, box}
+use borrow.Author.Tests.{eqb-false}
+use Rattle.slices.specs.Choices.{either, pick}
+use Rattle.slices.proofs.Choices.{either-false}
+use Rattle.hypervolume.specs.Cells.{holds, sum, count, box}
 use Rattle.hypervolume.specs.Counts.{cover, total}
-use Rattle.hypervolume.proofs.Sums.{sum-ext, sum-none, sum-swap, sum-steady, cells-none}
+use Rattle.hypervolume.proofs.Sums.{sum-none, sum-steady, cells-none}
 use Rattle.hypervolume.proofs.Counting.{count-le-box}
+use Rattle.hypervolume.proofs.Last.{dominates-last, dominates-before, cells-last, cells-alike}
 use Rattle.hypervolume.proofs.Tests.{Compared, compared, below, above, Equated, equated, same, holds-le-one}
 use Rattle.layers.specs.Layers.{begins, those, levels, area-at, next-level, Layer, layers-at, layers, cells-of, LayersAddUp}
 
--- ---- the last axis
-
--- On the last axis of a cell a point is compared like on any other.
-pub dominates-last : (p c : List ℕ) (z : ℕ) → dominates p (c ++ (z ∷ [])) ≡ both (dominates p c) (leb (getD p (length c) 0) z)
-unfolding dominates both
-dominates-last [] c z = rw (le-leb 0 z zero-le)
-dominates-last (x ∷ []) [] z = both-comm (leb x z) true
-dominates-last (x ∷ y ∷ p) [] z = both-comm (leb x z) true
-dominates-last (x ∷ p) (i ∷ c) z = go (leb x i) (dominates-last p c z)
-  where
-    go : (b : Bool) → dominates p (c ++ (z ∷ [])) ≡ both (dominates p c) (leb (getD p (length c) 0) z) → both b (dominates p (c ++ (z ∷ []))) ≡ both (both b (dominates p c)) (leb (getD p (length c) 0) z)
-    go true e = e
-    go false e = refl
-
--- A sum over cells, layer by layer along the last axis.
-cells-last : (rs : List ℕ) (r : ℕ) (f : List ℕ → ℕ) → cells (rs ++ (r ∷ [])) f ≡ sum r (λ z. cells rs (λ c. f (c ++ (z ∷ []))))
-unfolding cells
-cells-last [] r f = refl
-cells-last (a ∷ rs) r f =
-    ap (sum a) (fun-ext (λ i. cells-last rs r (λ c. f (i ∷ c))))
-    ∙ sum-swap a r (λ i z. cells rs (λ c. f (i ∷ (c ++ (z ∷ [])))))
-
--- Two sums over cells that agree on the cells of so many axes.
-pub cells-alike : (rs : List ℕ) (f g : List ℕ → ℕ) → ((c : List ℕ) → length c ≡ length rs → f c ≡ g c) → cells rs f ≡ cells rs g
-unfolding cells
-cells-alike [] f g h = h [] refl
-cells-alike (r ∷ rs) f g h =
-    sum-ext r (λ i. cells rs (λ c. f (i ∷ c))) (λ i. cells rs (λ c. g (i ∷ c)))
-    (λ i l. cells-alike rs (λ c. f (i ∷ c)) (λ c. g (i ∷ c)) (λ c e. h (i ∷ c) (ap suc e)))
-
+-- The total, layer by layer.
 total-last : (rs : List ℕ) (r : ℕ) (points : List (List ℕ)) → total (rs ++ (r ∷ [])) points ≡ sum r (area-at rs points)
 unfolding total count area-at
 total-last rs r points = cells-last rs r (λ c. holds (leb 1 (cover points c)))
@@ -82,10 +54,10 @@ area-steady rs points a b l h =
 
 -- Below the first level there is nothing.
 uncovered : (points : List (List ℕ)) (c : List ℕ) (z : ℕ) → ((k : ℕ) → k ≤ z → begins (length c) points k ≡ false) → cover points (c ++ (z ∷ [])) ≡ 0
-unfolding cover begins both holds
+unfolding cover begins holds
 uncovered [] c z h = refl
 uncovered (p ∷ points) c z h =
-    rw (dominates-last p c z, lt-leb (getD p (length c) 0) z (past (compared (getD p (length c) 0) z)), both-comm (dominates p c) false, uncovered points c z (λ k m. either-false (eqb (getD p (length c) 0) k) (begins (length c) points k) (h k m) .1))
+    rw (dominates-before (length c) c z refl p (past (compared (getD p (length c) 0) z)), uncovered points c z (λ k m. either-false (eqb (getD p (length c) 0) k) (begins (length c) points k) (h k m) .1))
   where
     past : {t : Bool} → Compared (getD p (length c) 0) z t → z < getD p (length c) 0
     past (above l) = l

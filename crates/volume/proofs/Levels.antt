@@ -16,8 +16,9 @@ use Rattle.slices.proofs.Choices.{both-comm}
 use Rattle.hypervolume.specs.Cells.{holds, dominates, count, box}
 use Rattle.hypervolume.specs.Counts.{cover, total}
 use Rattle.hypervolume.proofs.Counting.{total-more, total-none, total-le-box}
+use Rattle.hypervolume.proofs.Last.{dominates-last, cells-alike}
 use Rattle.layers.specs.Layers.{begins, those, levels, area-at, next-level, layers-at, layers}
-use Rattle.layers.proofs.Layers.{dominates-last, cells-alike, those-from}
+use Rattle.layers.proofs.Layers.{those-from}
 use Rattle.order.specs.Order.{sum-of}
 use Rattle.order.proofs.Sums.{sum-next}
 use Rattle.area.specs.Area.{spot, Stairs, Lined, Growing, Grew}
