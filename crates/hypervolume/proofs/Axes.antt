@@ -1,56 +1,16 @@
--- Law 7, the outermost axis: among points that are at most p on the first axis, each count of p is the edge on
--- that axis times the count on the other axes. Law 8, its last part: two adjacent axes may be swapped, so that
--- any axis can be made the first.
-use Prim.Native.Nat.{ℕ, zero, suc, _+_, _-_, _*_, _≤_, _<_}
+-- Law 8, its last part: two adjacent axes may be swapped, so that any axis can be made the last.
+use Prim.Native.Nat.{ℕ, zero, suc, _+_, _≤_}
 use mathlib.Core.Path.{_≡_, refl, ap, _∙_}
 use mathlib.Core.Bool.{Bool, true, false}
 use mathlib.Core.List.{List, _∷_, _++_, map, []}
-use native.Mathlib.Nat.{le-trans, le-refl}
 use native.Mathlib.Omega.{arith}
 use lib.Dec.{leb}
 use lib.ListN.{length}
-use borrow.Author.Tests.{le-leb, lt-leb}
 use Rattle.slices.specs.Choices.{both}
-use Rattle.hypervolume.specs.Cells.{holds, dominates, cells, count}
+use Rattle.hypervolume.specs.Cells.{dominates, cells, count}
 use Rattle.hypervolume.specs.Counts.{cover, total, contribution, joint, gain}
 use Rattle.hypervolume.proofs.Sums.{sum-ext, sum-swap, cells-ext}
 use Rattle.hypervolume.proofs.Dominance.{first, rest, dominates-cons}
-use Rattle.hypervolume.proofs.Counting.{layered}
-
--- Every point is at most z on the first axis.
-unfoldable pub FirstAtMost : ℕ → List (List ℕ) → Type 0
-FirstAtMost z [] = Unit {0}
-FirstAtMost z (t ∷ trials) = (first t ≤ z) × FirstAtMost z trials
-
--- from layer z on, a point that is at most z there dominates what it dominates on the other axes
-pub dominates-rest : (z i : ℕ) (c t : List ℕ) → first t ≤ z → z ≤ i → dominates t (i ∷ c) ≡ dominates (rest t) c
-unfolding both
-dominates-rest z i c t p l = rw (dominates-cons t i c, le-leb (first t) i (le-trans p l))
-
-dominates-not : (z i : ℕ) (c p : List ℕ) → i < z → dominates (z ∷ p) (i ∷ c) ≡ false
-unfolding both dominates
-dominates-not z i c p l = rw (lt-leb z i l)
-
-pub cover-rest : (z i : ℕ) (c : List ℕ) (trials : List (List ℕ)) → FirstAtMost z trials → z ≤ i → cover trials (i ∷ c) ≡ cover (map rest trials) c
-unfolding cover FirstAtMost
-cover-rest z i c [] h l = refl
-cover-rest z i c (t ∷ trials) h l =
-    rw (dominates-rest z i c t (h .0) l, cover-rest z i c trials (h .1) l)
-
--- Law 7 for a gain and for a joint contribution.
-pub gain-layers : (r : ℕ) (rs : List ℕ) (trials : List (List ℕ)) (z : ℕ) (p : List ℕ) → FirstAtMost z trials → gain (r ∷ rs) trials (z ∷ p) ≡ (r - z) * gain rs (map rest trials) p
-unfolding gain count both holds rest first
-gain-layers r rs trials z p h =
-    layered r z rs _ _
-    (λ i c l. rw (dominates-not z i c p l))
-    (λ i c l. rw (dominates-rest z i c (z ∷ p) (le-refl z) l, cover-rest z i c trials h l))
-
-pub joint-layers : (r : ℕ) (rs : List ℕ) (trials : List (List ℕ)) (z : ℕ) (p t : List ℕ) → FirstAtMost z trials → first t ≤ z → joint (r ∷ rs) ((z ∷ p) ∷ trials) (z ∷ p) t ≡ (r - z) * joint rs (p ∷ map rest trials) p (rest t)
-unfolding joint count both holds rest first cover
-joint-layers r rs trials z p t h ht =
-    layered r z rs _ _
-    (λ i c l. rw (dominates-not z i c p l))
-    (λ i c l. rw (dominates-rest z i c (z ∷ p) (le-refl z) l, dominates-rest z i c t ht l, cover-rest z i c trials h l))
 
 -- Two adjacent axes swapped: those at places k and k + 1.
 unfoldable pub swap-at : ℕ → List ℕ → List ℕ

@@ -1,8 +1,8 @@
 -- The next point of the sweep, seen along z: its gain and its joint contributions are counts of the line.
-use Prim.Native.Nat.{ℕ, zero, suc, _+_, _-_, _*_, _≤_, _<_, min}
+use Prim.Native.Nat.{ℕ, suc, _+_, _-_, _*_, _≤_, _<_, min}
 use mathlib.Core.Path.{_≡_, refl, sym, ap, _∙_}
 use mathlib.Core.Bool.{Bool, true, false}
-use mathlib.Core.List.{List, _∷_, _++_, map, map-append, []}
+use mathlib.Core.List.{List, _∷_, _++_, []}
 use native.Mathlib.Nat.{zero-add, add-zero, add-comm}
 use native.Mathlib.Decide.{decLe}
 use native.Mathlib.Numerals.{one-add, add-one}
@@ -17,9 +17,9 @@ use Rattle.hypervolume.specs.Counts.{cover, total, contribution, gain, joint}
 use Rattle.hypervolume.proofs.Sums.{sum-ext}
 use Rattle.hypervolume.proofs.Tests.{Equated, same, differs, equated}
 use Rattle.slices.proofs.Choices.{both-comm}
-use Rattle.hypervolume.proofs.Dominance.{first, rest, cover-append, among-at}
+use Rattle.hypervolume.proofs.Dominance.{cover-append, among-at}
 use Rattle.hypervolume.proofs.Counting.{count-none, SameCover, total-same, total-more, contribution-same, contribution-new, contribution-more}
-use Rattle.hypervolume.proofs.Axes.{FirstAtMost, gain-layers, joint-layers}
+use Rattle.hypervolume.proofs.Last.{Under, gain-last, joint-last}
 use Rattle.line.specs.Line.{entry-of, x-of, y-of, index-of, spot, tally, over, over-by, Rising, Flagged, ValidLine, Alike}
 use Rattle.strips.specs.Strips.{gain-over, shared-with}
 use Rattle.line.specs.Entries.{Below}
@@ -48,11 +48,12 @@ none-alike k n e = go (eqb k 0) (eqb n 0) (equated k 0) (equated n 0)
     go true false (same p) (differs q) = absurd (let no′ : ⊥ = q (omega arith) in no′)
     go false true (differs p) (same q) = absurd (let no′ : ⊥ = p (omega arith) in no′)
 
-pub gain-over-gain : (rx ry : ℕ) (line : List ℕ) (trials : List (List ℕ)) (p : List ℕ) → LineCovers ry line trials → gain-over (rx ∷ ry ∷ []) line p ≡ gain (rx ∷ ry ∷ []) trials p
-unfolding gain-over gain LineCovers
-gain-over-gain rx ry line trials p h =
+-- In a layer a point is not compared on z, whatever its z is.
+pub gain-over-gain : (rx ry : ℕ) (line : List ℕ) (trials : List (List ℕ)) (x y z : ℕ) → LineCovers ry line trials → gain-over (rx ∷ ry ∷ []) line (x ∷ y ∷ []) ≡ gain (rx ∷ ry ∷ []) trials (x ∷ y ∷ z ∷ [])
+unfolding gain-over gain LineCovers dominates
+gain-over-gain rx ry line trials x y z h =
     count-layer rx ry _ _
-    (λ i j l. ap (both (dominates p (i ∷ j ∷ []))) (none-alike (over line (i ∷ j ∷ [])) (cover trials (i ∷ j ∷ [])) (h i j l)))
+    (λ i j l. ap (both (dominates (x ∷ y ∷ []) (i ∷ j ∷ []))) (none-alike (over line (i ∷ j ∷ [])) (cover trials (i ∷ j ∷ [])) (h i j l)))
 
 jointly : (p t : Bool) (n k b : ℕ) → min n 2 ≡ min k 2 → (n ≤ 1 → b ≡ holds t) → both p (both (eqb n 1) (leb 1 b)) ≡ both p (both t (eqb (holds p + k) 2))
 unfolding both holds
@@ -66,11 +67,11 @@ jointly true t n k b e f = rw (one-add k, eqb·suc-suc k 1) (go t (eqb n 1) (eqb
     go true true true (same p) q f = rw (f (omega arith))
     go false true true (same p) q f = rw (f (omega arith))
 
-pub shared-with-joint : (rx ry : ℕ) (line : List ℕ) (trials : List (List ℕ)) (p t : List ℕ) (j : ℕ) → LineCovers ry line trials → LineCoversAt ry j line t → shared-with (rx ∷ ry ∷ []) line p j ≡ joint (rx ∷ ry ∷ []) (p ∷ trials) p t
-unfolding shared-with joint cover LineCovers LineCoversAt
-shared-with-joint rx ry line trials p t j h o =
+pub shared-with-joint : (rx ry : ℕ) (line : List ℕ) (trials : List (List ℕ)) (x y z : ℕ) (t : List ℕ) (j : ℕ) → LineCovers ry line trials → LineCoversAt ry j line t → shared-with (rx ∷ ry ∷ []) line (x ∷ y ∷ []) j ≡ joint (rx ∷ ry ∷ []) ((x ∷ y ∷ z ∷ []) ∷ trials) (x ∷ y ∷ z ∷ []) t
+unfolding shared-with joint cover LineCovers LineCoversAt dominates
+shared-with-joint rx ry line trials x y z t j h o =
     count-layer rx ry _ _
-    (λ i k l. jointly (dominates p (i ∷ k ∷ [])) (dominates t (i ∷ k ∷ [])) (over line (i ∷ k ∷ [])) (cover trials (i ∷ k ∷ [])) (over-by j line (i ∷ k ∷ [])) (h i k l) (o i k l))
+    (λ i k l. jointly (dominates (x ∷ y ∷ []) (i ∷ k ∷ [])) (dominates t (i ∷ k ∷ [])) (over line (i ∷ k ∷ [])) (cover trials (i ∷ k ∷ [])) (over-by j line (i ∷ k ∷ [])) (h i k l) (o i k l))
 
 -- No entry has the index j.
 pub over-by-none : (n j : ℕ) (line c : List ℕ) → Below n line → n ≤ j → over-by j line c ≡ 0
@@ -98,11 +99,11 @@ module _ (x y index : ℕ) (y-small : y ≤ 1048576) (index-small : index < 512)
   pub index-entry : index-of (entry-of x y index) ≡ index
   index-entry = omega arith
 
--- The line stands for the points passed, z first, each with its index in the list.
+-- The line stands for the points passed, each with its index in the list.
 pub record LineFor (ry : ℕ) (trials : List (List ℕ)) (line : List ℕ) : Type 0 where
   pub valid : ValidLine line
-  pub all : LineCovers ry line (map rest trials)
-  pub each : (j : ℕ) → j < length trials → LineCoversAt ry j line (rest (getD trials j []))
+  pub all : LineCovers ry line trials
+  pub each : (j : ℕ) → j < length trials → LineCoversAt ry j line (getD trials j [])
   pub below : Below (length trials) line
 
 pub line-for-none : (ry : ℕ) → LineFor ry [] []
@@ -116,9 +117,9 @@ line-for-none ry =
     }
 
 -- One more point: a line that counts as the old one with its entry.
-module _ {ry : ℕ} {trials : List (List ℕ)} {line : List ℕ} (h : LineFor ry trials line) (z x y : ℕ) (y-small : y ≤ 1048576) (few : length trials < 512) where
+module _ {ry : ℕ} {trials : List (List ℕ)} {line : List ℕ} (h : LineFor ry trials line) (x y z : ℕ) (y-small : y ≤ 1048576) (few : length trials < 512) where
   p : List ℕ
-  p = z ∷ x ∷ y ∷ []
+  p = x ∷ y ∷ z ∷ []
 
   abbrev w : ℕ
   w = entry-of x y (length trials)
@@ -131,19 +132,19 @@ module _ {ry : ℕ} {trials : List (List ℕ)} {line : List ℕ} (h : LineFor ry
   over-by-more j c =
       rw (spot-entry x y (length trials) y-small few, index-entry x y (length trials) y-small few)
 
-  cover-next : (c : List ℕ) → cover (map rest (trials ++ (p ∷ []))) c ≡ cover (map rest trials) c + holds (dominates (x ∷ y ∷ []) c)
-  unfolding p rest cover
-  cover-next c =
-      rw (map-append rest trials (p ∷ []), cover-append (map rest trials) ((x ∷ y ∷ []) ∷ []) c)
-      (ap (λ k. cover (map rest trials) c + k) (add-zero (holds (dominates (x ∷ y ∷ []) c))))
+  cover-next : (i j : ℕ) → cover (trials ++ (p ∷ [])) (i ∷ j ∷ []) ≡ cover trials (i ∷ j ∷ []) + holds (dominates (x ∷ y ∷ []) (i ∷ j ∷ []))
+  unfolding p cover dominates
+  cover-next i j =
+      cover-append trials (p ∷ []) (i ∷ j ∷ [])
+      ∙ ap (λ k. cover trials (i ∷ j ∷ []) + k) (add-zero (holds (dominates (x ∷ y ∷ []) (i ∷ j ∷ []))))
 
   module _ {left : List ℕ} (valid : ValidLine left) (alike : Alike ry (entry-of x y (length trials) ∷ line) left) (below′ : Below (suc (length trials)) left) where
     -- where at most one entry is over a cell now, at most one was before
     few-before : (i j : ℕ) → j < ry → over left (i ∷ j ∷ []) ≤ 1 → over (w ∷ line) (i ∷ j ∷ []) ≤ 1
     few-before i j l m = omega (arith, alike i j l .many)
 
-    each-more : (t : ℕ) → t < length (trials ++ (p ∷ [])) → Dec (t < length trials) → LineCoversAt ry t left (rest (getD (trials ++ (p ∷ [])) t []))
-    unfolding LineCoversAt both holds p rest
+    each-more : (t : ℕ) → t < length (trials ++ (p ∷ [])) → Dec (t < length trials) → LineCoversAt ry t left (getD (trials ++ (p ∷ [])) t [])
+    unfolding LineCoversAt both holds p dominates
     each-more t l (yes a) i j m o =
         let one : over (w ∷ line) (i ∷ j ∷ []) ≤ 1 = few-before i j m o in
         rw (List·getD-append trials (p ∷ []) [] t a)
@@ -159,37 +160,26 @@ module _ {ry : ℕ} {trials : List (List ℕ)} {line : List ℕ} (h : LineFor ry
         ∙ rw (eq-eqb (length trials) (length trials) refl, over-by-none (length trials) (length trials) line (i ∷ j ∷ []) (h .below) (omega arith))
         (add-zero (holds (dominates (x ∷ y ∷ []) (i ∷ j ∷ [])))))
 
-    pub line-for-more : LineFor ry (trials ++ ((z ∷ x ∷ y ∷ []) ∷ [])) left
+    pub line-for-more : LineFor ry (trials ++ ((x ∷ y ∷ z ∷ []) ∷ [])) left
     unfolding LineCovers p
     line-for-more =
         record {
           valid = valid;
           all = λ i j l.
-              let before : min (over line (i ∷ j ∷ [])) 2 ≡ min (cover (map rest trials) (i ∷ j ∷ [])) 2 = h .all i j l in
-              omega (arith, alike i j l .many, over-more (i ∷ j ∷ []), cover-next (i ∷ j ∷ []));
+              let before : min (over line (i ∷ j ∷ [])) 2 ≡ min (cover trials (i ∷ j ∷ [])) 2 = h .all i j l in
+              omega (arith, alike i j l .many, over-more (i ∷ j ∷ []), cover-next i j);
           each = λ t l. each-more t l (decLe (suc t) (length trials));
           below = rw (length-append trials (p ∷ []), add-one (length trials)) below′;
         }
 
-first-at : (z : ℕ) (trials : List (List ℕ)) → FirstAtMost z trials → (j : ℕ) → j < length trials → first (getD trials j []) ≤ z
-unfolding FirstAtMost
-first-at z [] h j l = absurd (let no′ : ⊥ = omega arith in no′)
-first-at z (t ∷ trials) h zero l = h .0
-first-at z (t ∷ trials) h (suc j) l = first-at z trials (h .1) j (omega arith)
-
-pub at-first : (z : ℕ) (trials : List (List ℕ)) → ((j : ℕ) → j < length trials → first (getD trials j []) ≤ z) → FirstAtMost z trials
-unfolding FirstAtMost
-at-first z [] h = tt
-at-first z (t ∷ trials) h = (h 0 (omega arith), at-first z trials (λ j l. h (suc j) (omega arith)))
-
 -- The next point q of the sweep, whose z is no less than that of any point passed: each of its counts is the height of
 -- its layers times the count of the line (law 7), and the counts of the points passed move by them (laws 1 and 2).
-module _ {ry : ℕ} {trials : List (List ℕ)} {line : List ℕ} (h : LineFor ry trials line) (rz rx z x y : ℕ) (under : FirstAtMost z trials) where
+module _ {ry : ℕ} {trials : List (List ℕ)} {line : List ℕ} (h : LineFor ry trials line) (rx rz x y z : ℕ) (under : Under 2 z trials) where
   reference : List ℕ
-  reference = rz ∷ rx ∷ ry ∷ []
+  reference = rx ∷ ry ∷ rz ∷ []
 
   q : List ℕ
-  q = z ∷ x ∷ y ∷ []
+  q = x ∷ y ∷ z ∷ []
 
   last : SameCover (trials ++ (q ∷ [])) (q ∷ trials)
   unfolding SameCover cover
@@ -199,31 +189,29 @@ module _ {ry : ℕ} {trials : List (List ℕ)} {line : List ℕ} (h : LineFor ry
 
   next-gain : gain reference trials q ≡ (rz - z) * gain-over (rx ∷ ry ∷ []) line (x ∷ y ∷ [])
   unfolding reference q
-  next-gain =
-      gain-layers rz (rx ∷ ry ∷ []) trials z (x ∷ y ∷ []) under
-      ∙ rw (gain-over-gain rx ry line (map rest trials) (x ∷ y ∷ []) (h .all))
+  next-gain = gain-last (rx ∷ ry ∷ []) rz trials q under ∙ rw (gain-over-gain rx ry line trials x y z (h .all))
 
   next-joint : (j : ℕ) → j < length trials → joint reference (q ∷ trials) q (getD trials j []) ≡ (rz - z) * shared-with (rx ∷ ry ∷ []) line (x ∷ y ∷ []) j
   unfolding reference q
   next-joint j l =
-      joint-layers rz (rx ∷ ry ∷ []) trials z (x ∷ y ∷ []) (getD trials j []) under (first-at z trials under j l)
-      ∙ rw (shared-with-joint rx ry line (map rest trials) (x ∷ y ∷ []) (rest (getD trials j [])) j (h .all) (h .each j l))
+      joint-last (rx ∷ ry ∷ []) rz trials q (getD trials j []) under (under j l)
+      ∙ rw (shared-with-joint rx ry line trials x y z (getD trials j []) j (h .all) (h .each j l))
 
-  pub next-total : total (rz ∷ rx ∷ ry ∷ []) (trials ++ ((z ∷ x ∷ y ∷ []) ∷ [])) ≡ total (rz ∷ rx ∷ ry ∷ []) trials + (rz - z) * gain-over (rx ∷ ry ∷ []) line (x ∷ y ∷ [])
+  pub next-total : total (rx ∷ ry ∷ rz ∷ []) (trials ++ ((x ∷ y ∷ z ∷ []) ∷ [])) ≡ total (rx ∷ ry ∷ rz ∷ []) trials + (rz - z) * gain-over (rx ∷ ry ∷ []) line (x ∷ y ∷ [])
   unfolding reference q
   next-total =
       total-same reference (trials ++ (q ∷ [])) (q ∷ trials) last
       ∙ total-more reference trials q
       ∙ ap (λ k. total reference trials + k) next-gain
 
-  pub next-own : contribution (rz ∷ rx ∷ ry ∷ []) (trials ++ ((z ∷ x ∷ y ∷ []) ∷ [])) (z ∷ x ∷ y ∷ []) ≡ (rz - z) * gain-over (rx ∷ ry ∷ []) line (x ∷ y ∷ [])
+  pub next-own : contribution (rx ∷ ry ∷ rz ∷ []) (trials ++ ((x ∷ y ∷ z ∷ []) ∷ [])) (x ∷ y ∷ z ∷ []) ≡ (rz - z) * gain-over (rx ∷ ry ∷ []) line (x ∷ y ∷ [])
   unfolding reference q
   next-own =
       contribution-same reference (trials ++ (q ∷ [])) (q ∷ trials) q last
       ∙ contribution-new reference trials q
       ∙ next-gain
 
-  pub next-other : (j : ℕ) → j < length trials → contribution (rz ∷ rx ∷ ry ∷ []) trials (getD trials j []) ≡ contribution (rz ∷ rx ∷ ry ∷ []) (trials ++ ((z ∷ x ∷ y ∷ []) ∷ [])) (getD trials j []) + (rz - z) * shared-with (rx ∷ ry ∷ []) line (x ∷ y ∷ []) j
+  pub next-other : (j : ℕ) → j < length trials → contribution (rx ∷ ry ∷ rz ∷ []) trials (getD trials j []) ≡ contribution (rx ∷ ry ∷ rz ∷ []) (trials ++ ((x ∷ y ∷ z ∷ []) ∷ [])) (getD trials j []) + (rz - z) * shared-with (rx ∷ ry ∷ []) line (x ∷ y ∷ []) j
   unfolding reference q
   next-other j l =
       contribution-more reference trials q (getD trials j []) (among-at trials j l)

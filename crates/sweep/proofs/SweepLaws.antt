@@ -1,7 +1,7 @@
 -- The sweep: after i points, the total of these and the contribution of each among them.
 use Prim.Native.Nat.{ℕ, suc, _+_, _-_, _*_, _^_, _≤_, _<_}
 use mathlib.Core.Path.{_≡_, refl, sym, _∙_}
-use mathlib.Core.List.{List, _∷_, _++_, map, []}
+use mathlib.Core.List.{List, _∷_, _++_, []}
 use native.Mathlib.Nat.{mul-one, mul-zero}
 use native.Mathlib.Decide.{decLe}
 use native.Mathlib.Numerals.{add-one}
@@ -10,20 +10,19 @@ use lib.ListN.{length, take, drop, getD, set, length-set, length-take, length-ma
 use lib.Seq.{take-suc, take-all, take-take, getD-take, getD-set-same, getD-set-other, length-take-le}
 use Rattle.hypervolume.specs.Cells.{box}
 use Rattle.hypervolume.specs.Counts.{total, contribution, contributions}
-use Rattle.hypervolume.proofs.Dominance.{first}
 use Rattle.hypervolume.proofs.Counting.{total-none, total-le-box}
-use Rattle.hypervolume.proofs.Axes.{FirstAtMost}
+use Rattle.hypervolume.proofs.Last.{Under}
 use Rattle.line.specs.declared.column.Column.{Column}
 use Rattle.hypervolume.specs.Sorted.{Small}
 use Rattle.sweep.specs.Points.{Ready}
 use Rattle.line.specs.Line.{entry-of, x-of, index-of, flag-of, Rising, Flagged, Ranked}
 use Rattle.strips.specs.Strips.{shared-with, Seen, Crossing, Crossed}
 use Rattle.line.specs.Entries.{Entering, Entered}
-use Rattle.sweep.proofs.Coordinates.{three, ascending-at, turn, turn-three, total-turned, contribution-turned}
+use Rattle.sweep.proofs.Coordinates.{three, ascending-at}
 use Rattle.sweep.proofs.Front.{getD-mapped, front-then}
 use Rattle.strips.proofs.SettleLaws.{three-fit}
 use Rattle.line.proofs.Flags.{flagged-front}
-use Rattle.sweep.proofs.Layers.{LineFor, line-for-none, line-for-more, at-first, shared-with-none, next-total, next-own, next-other}
+use Rattle.sweep.proofs.Layers.{LineFor, line-for-none, line-for-more, shared-with-none, next-total, next-own, next-other}
 use Rattle.line.proofs.Entries.{below-lift, below-at}
 
 pub record Progress (ps : List (List ℕ)) (line₀ out : List ℕ) (rx ry rz i held volume : ℕ) (line left : List ℕ) : Type 0 where
@@ -31,11 +30,11 @@ pub record Progress (ps : List (List ℕ)) (line₀ out : List ℕ) (rx ry rz i 
   pub within : i ≤ length ps
   pub long : length line ≡ length line₀
   pub alike : length left ≡ length out
-  pub counted : volume ≡ total (rz ∷ rx ∷ ry ∷ []) (take i (map turn ps))
-  pub each : (j : ℕ) → j < i → getD left j 0 ≡ contribution (rz ∷ rx ∷ ry ∷ []) (take i (map turn ps)) (getD (map turn ps) j [])
+  pub counted : volume ≡ total (rx ∷ ry ∷ rz ∷ []) (take i ps)
+  pub each : (j : ℕ) → j < i → getD left j 0 ≡ contribution (rx ∷ ry ∷ rz ∷ []) (take i ps) (getD ps j [])
   pub behind : (j : ℕ) → i ≤ j → getD left j 0 ≡ getD out j 0
   pub few : held ≤ i
-  pub lined : LineFor ry (take i (map turn ps)) (take held line)
+  pub lined : LineFor ry (take i ps) (take held line)
 
 pub progress-none : {ps : List (List ℕ)} {r line out : List ℕ} → Ready ps r line out → length r ≡ 3 → Progress ps line out (getD r 0 0) (getD r 1 0) (getD r 2 0) 0 0 0 line out
 progress-none {ps} {r} {line} {out} h e =
@@ -44,7 +43,7 @@ progress-none {ps} {r} {line} {out} h e =
       within = omega arith;
       long = refl;
       alike = refl;
-      counted = sym (total-none (getD r 2 0 ∷ getD r 0 0 ∷ getD r 1 0 ∷ []));
+      counted = sym (total-none (getD r 0 0 ∷ getD r 1 0 ∷ getD r 2 0 ∷ []));
       each = λ j l. absurd (let no′ : ⊥ = omega arith in no′);
       behind = λ j l. refl;
       few = omega arith;
@@ -56,53 +55,38 @@ module _ {ps : List (List ℕ)} {line₀ out : List ℕ} {rx ry rz i held volume
   ready : Ready ps (rx ∷ ry ∷ rz ∷ []) line₀ out
   ready = h .ready
 
-  all : List (List ℕ)
-  all = map turn ps
-
   passed : List (List ℕ)
-  passed = take i (map turn ps)
-
-  all-at : (j : ℕ) → j < length ps → getD all j [] ≡ turn (getD ps j [])
-  unfolding all
-  all-at j m = getD-mapped turn [] [] ps j m
-
-  z-first : (j : ℕ) → j < length ps → turn (getD ps j []) ≡ getD (getD ps j []) 2 0 ∷ getD (getD ps j []) 0 0 ∷ getD (getD ps j []) 1 0 ∷ []
-  z-first j m = turn-three (getD ps j []) (ready .sorted .axes j m)
+  passed = take i ps
 
   pub progress-small : Small p
   progress-small a = rw here (ready .sorted .small i a)
 
-  all-many : length all ≡ length ps
-  unfolding all
-  all-many = length-map ps turn
-
   passed-many : length passed ≡ i
-  unfolding passed all
-  passed-many = length-take-le i all (omega (arith, all-many))
+  unfolding passed
+  passed-many = length-take-le i ps (omega arith)
 
-  passed-at : (j : ℕ) → j < i → getD passed j [] ≡ getD all j []
-  unfolding passed all
-  passed-at j m = getD-take i all j [] m
+  passed-at : (j : ℕ) → j < i → getD passed j [] ≡ getD ps j []
+  unfolding passed
+  passed-at j m = getD-take i ps j [] m
 
-  next : take (i + 1) (map turn ps) ≡ passed ++ ((getD p 2 0 ∷ getD p 0 0 ∷ getD p 1 0 ∷ []) ∷ [])
-  unfolding passed all
-  next = rw (add-one i, take-suc all i [] (omega (arith, all-many)), all-at i l, z-first i l, here)
+  this : getD p 0 0 ∷ getD p 1 0 ∷ getD p 2 0 ∷ [] ≡ getD ps i []
+  this = rw here (three (getD ps i []) (ready .sorted .axes i l))
 
-  under : FirstAtMost (getD p 2 0) passed
-  unfolding first
-  under =
-      at-first (getD p 2 0) passed
-      (λ j m.
+  next : take (i + 1) ps ≡ passed ++ ((getD p 0 0 ∷ getD p 1 0 ∷ getD p 2 0 ∷ []) ∷ [])
+  unfolding passed
+  next = rw (add-one i, take-suc ps i [] l, this)
+
+  under : Under 2 (getD p 2 0) passed
+  under j m =
       let before : j < i = omega (arith, passed-many) in
-      let inside : j < length ps = omega arith in
-      rw (passed-at j before, all-at j inside, z-first j inside, here) (ascending-at (ready .sorted) j i (omega arith) l))
+      rw (passed-at j before, here) (ascending-at (ready .sorted) j i (omega arith) l)
 
-  shared-at : (j : ℕ) → j < i → getD left j 0 ≡ contribution (rz ∷ rx ∷ ry ∷ []) (take (i + 1) (map turn ps)) (getD all j []) + (rz - getD p 2 0) * shared-with (rx ∷ ry ∷ []) (take held line) (getD p 0 0 ∷ getD p 1 0 ∷ []) j
-  unfolding all passed
+  shared-at : (j : ℕ) → j < i → getD left j 0 ≡ contribution (rx ∷ ry ∷ rz ∷ []) (take (i + 1) ps) (getD ps j []) + (rz - getD p 2 0) * shared-with (rx ∷ ry ∷ []) (take held line) (getD p 0 0 ∷ getD p 1 0 ∷ []) j
+  unfolding passed
   shared-at j m =
       h .each j m
       ∙ rw (next, ← (passed-at j m))
-      (next-other (h .lined) rz rx (getD p 2 0) (getD p 0 0) (getD p 1 0) under j (omega (arith, passed-many)))
+      (next-other (h .lined) rx rz (getD p 0 0) (getD p 1 0) (getD p 2 0) under j (omega (arith, passed-many)))
 
   shared-none : (j : ℕ) → i ≤ j → shared-with (rx ∷ ry ∷ []) (take held line) (getD p 0 0 ∷ getD p 1 0 ∷ []) j ≡ 0
   unfolding passed
@@ -184,35 +168,35 @@ module _ {ps : List (List ℕ)} {line₀ out : List ℕ} {rx ry rz i held volume
         enough j (no a) = rw (shared-none j (omega arith), mul-zero height) (omega arith)
 
     module _ {left′ : List ℕ} {area : ℕ} (c : Crossed (take held line) (getD p 0 0) (getD p 1 0) rx ry height left left′ area) where
-      new-total : total (rz ∷ rx ∷ ry ∷ []) (take (i + 1) (map turn ps)) ≡ volume + height * area
+      new-total : total (rx ∷ ry ∷ rz ∷ []) (take (i + 1) ps) ≡ volume + height * area
       unfolding passed
       new-total =
           rw (next, e, h .counted, c .gained)
-          (next-total (h .lined) rz rx (getD p 2 0) (getD p 0 0) (getD p 1 0) under)
+          (next-total (h .lined) rx rz (getD p 0 0) (getD p 1 0) (getD p 2 0) under)
 
       pub progress-fits : volume + height * area < 2 ^ 64
       unfolding box
       progress-fits =
-          let most : total (rz ∷ rx ∷ ry ∷ []) (take (i + 1) (map turn ps)) ≤ rz * (rx * (ry * 1)) =
-          total-le-box (rz ∷ rx ∷ ry ∷ []) (take (i + 1) (map turn ps)) in
-          let small : rz * (rx * (ry * 1)) ≤ 1152921504606846976 =
-          rw (mul-one ry) (three-fit (ready .reference-small 2) (ready .reference-small 0) (ready .reference-small 1)) in
+          let most : total (rx ∷ ry ∷ rz ∷ []) (take (i + 1) ps) ≤ rx * (ry * (rz * 1)) =
+          total-le-box (rx ∷ ry ∷ rz ∷ []) (take (i + 1) ps) in
+          let small : rx * (ry * (rz * 1)) ≤ 1152921504606846976 =
+          rw (mul-one rz) (three-fit (ready .reference-small 0) (ready .reference-small 1) (ready .reference-small 2)) in
           omega (arith, new-total)
 
       pub progress-own : height * area < 2 ^ 64
       progress-own = omega (arith, progress-fits)
 
-      new-each : (own : ℕ) → own ≡ height * area → length left′ ≡ length left → (j : ℕ) → j < i + 1 → Dec (j < i) → getD (set left′ i own) j 0 ≡ contribution (rz ∷ rx ∷ ry ∷ []) (take (i + 1) (map turn ps)) (getD (map turn ps) j [])
-      unfolding all passed
+      new-each : (own : ℕ) → own ≡ height * area → length left′ ≡ length left → (j : ℕ) → j < i + 1 → Dec (j < i) → getD (set left′ i own) j 0 ≡ contribution (rx ∷ ry ∷ rz ∷ []) (take (i + 1) ps) (getD ps j [])
+      unfolding passed
       new-each own f g j m (yes a) =
           let fall : getD left′ j 0 + height * shared-with (rx ∷ ry ∷ []) (take held line) (getD p 0 0 ∷ getD p 1 0 ∷ []) j ≡ getD left j 0 = c .fallen j in
-          let due : getD left j 0 ≡ contribution (rz ∷ rx ∷ ry ∷ []) (take (i + 1) (map turn ps)) (getD all j []) + height * shared-with (rx ∷ ry ∷ []) (take held line) (getD p 0 0 ∷ getD p 1 0 ∷ []) j =
+          let due : getD left j 0 ≡ contribution (rx ∷ ry ∷ rz ∷ []) (take (i + 1) ps) (getD ps j []) + height * shared-with (rx ∷ ry ∷ []) (take held line) (getD p 0 0 ∷ getD p 1 0 ∷ []) j =
           rw e (shared-at j a) in
           getD-set-other left′ i j own 0 (λ q. omega arith) ∙ omega arith
       new-each own f g j m (no a) =
           let last : j ≡ i = omega arith in
-          rw (last, getD-set-same left′ i own 0 (omega (arith, g, h .alike, ready .room)), f, all-at i l, z-first i l, ← here, next, e, c .gained)
-          (sym (next-own (h .lined) rz rx (getD p 2 0) (getD p 0 0) (getD p 1 0) under))
+          rw (last, getD-set-same left′ i own 0 (omega (arith, g, h .alike, ready .room)), f, ← this, next, e, c .gained)
+          (sym (next-own (h .lined) rx rz (getD p 0 0) (getD p 1 0) (getD p 2 0) under))
 
       new-behind : (own : ℕ) → (j : ℕ) → i + 1 ≤ j → getD (set left′ i own) j 0 ≡ getD out j 0
       new-behind own j m =
@@ -235,7 +219,7 @@ module _ {ps : List (List ℕ)} {line₀ out : List ℕ} {rx ry rz i held volume
             few = omega (arith, t .within, h .few);
             lined =
                 rw next
-                (line-for-more (h .lined) (getD p 2 0) (getD p 0 0) (getD p 1 0) (progress-small 1)
+                (line-for-more (h .lined) (getD p 0 0) (getD p 1 0) (getD p 2 0) (progress-small 1)
                 (omega (arith, passed-many, ready .sorted .few))
                 (t .valid)
                 (rw (passed-many, ← k) (t .alike))
@@ -248,11 +232,11 @@ module _ {ps : List (List ℕ)} {line₀ out : List ℕ} {rx ry rz i held volume
 
 -- After the last point.
 module _ {ps : List (List ℕ)} {line₀ out : List ℕ} {rx ry rz i held volume : ℕ} {line left : List ℕ} (h : Progress ps line₀ out rx ry rz i held volume line left) (l : length ps ≤ i) where
-  whole : take i (map turn ps) ≡ map turn ps
-  whole = take-all i (map turn ps) (omega (arith, length-map ps turn))
+  whole : take i ps ≡ ps
+  whole = take-all i ps l
 
   progress-total : volume ≡ total (rx ∷ ry ∷ rz ∷ []) ps
-  progress-total = h .counted ∙ rw whole (total-turned rx ry rz ps)
+  progress-total = rw whole at (h .counted)
 
   counts : List ℕ
   counts = contributions (rx ∷ ry ∷ rz ∷ []) ps
@@ -265,8 +249,7 @@ module _ {ps : List (List ℕ)} {line₀ out : List ℕ} {rx ry rz i held volume
   unfolding counts contributions
   counts-at j m =
       getD-mapped (λ t. contribution (rx ∷ ry ∷ rz ∷ []) ps t) [] 0 ps j m
-      ∙ rw (h .each j (omega arith), whole, getD-mapped turn [] [] ps j m)
-      (sym (contribution-turned rx ry rz ps (getD ps j [])))
+      ∙ rw (h .each j (omega arith), whole)
 
   progress-contributions : left ≡ contributions (rx ∷ ry ∷ rz ∷ []) ps ++ drop (length ps) out
   unfolding counts
