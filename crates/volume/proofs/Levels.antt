@@ -3,7 +3,7 @@ use Prim.Native.Nat.{ℕ, zero, suc, _+_, _-_, _*_, _/_, _%_, _^_, _≤_, _<_, m
 use mathlib.Core.Path.{_≡_, refl, sym, ap, _∙_}
 use mathlib.Core.Bool.{Bool, true, false}
 use mathlib.Core.List.{List, _∷_, _++_, []}
-use native.Mathlib.Nat.{sub-zero, mul-one, mul-le-mul, sub-self}
+use native.Mathlib.Nat.{zero-add, sub-zero, mul-one, mul-le-mul, sub-self}
 use native.Mathlib.Decide.{decLe}
 use native.Mathlib.Numerals.{add-one}
 use native.Mathlib.Omega.{arith}
@@ -11,7 +11,7 @@ use lib.Dec.{leb, eqb}
 use lib.ListN.{length, take, getD}
 use lib.Ieee.{Float}
 use borrow.Author.Tests.{le-leb, lt-leb, lt-ltb, le-ltb, eq-eqb, ne-eqb}
-use Rattle.slices.specs.Choices.{both, pick}
+use Rattle.slices.specs.Choices.{both, either, pick}
 use Rattle.slices.proofs.Choices.{both-comm}
 use Rattle.hypervolume.specs.Cells.{holds, dominates, count, box}
 use Rattle.hypervolume.specs.Counts.{cover, total}
@@ -20,13 +20,14 @@ use Rattle.hypervolume.proofs.Last.{dominates-last, cells-alike}
 use Rattle.layers.specs.Layers.{begins, those, levels, area-at, next-level, layers-at, layers}
 use Rattle.layers.proofs.Layers.{those-from}
 use Rattle.order.specs.Order.{sum-of}
+use Rattle.order.specs.Keys.{Taken}
 use Rattle.order.proofs.Sums.{sum-next}
+use Rattle.order.proofs.Keys.{sum-over, cover-over, of-key, by-keys, many, place-of, level-of, rises, sum-front, sum-at}
 use Rattle.area.specs.Area.{spot, Stairs, Lined, Growing, Grew}
 use Rattle.area.proofs.Growing.{none-kept, none-lined}
 use Rattle.doubles.specs.Doubles.{zero-double, with-layer, sum-from}
 use Rattle.volume.specs.Volume.{figure-of}
-use Rattle.volume.specs.Layering.{Taken, level-at, layer-or}
-use Rattle.volume.proofs.Keys.{sum-over, cover-over, begins-over, of-key, by-keys, many, place-of, level-of, rises, sum-front, sum-at}
+use Rattle.volume.specs.Layering.{level-at, layer-or}
 
 -- The points of the first i keys, seen along z, the last one first.
 unfoldable pub passed : List (List ℕ) → List ℕ → ℕ → List (List ℕ)
@@ -50,7 +51,17 @@ seen (x ∷ []) (i ∷ j ∷ []) e = rw (le-leb 0 j zero-le)
 seen (x ∷ y ∷ []) (i ∷ j ∷ []) e = refl
 seen (x ∷ y ∷ z ∷ p) (i ∷ j ∷ []) e = refl
 
-module _ {points : List (List ℕ)} {keys : List ℕ} (t : Taken points keys) where
+-- Whether a layer begins at z, by a sum over the points.
+begins-over : (axes : ℕ) (points : List (List ℕ)) (z : ℕ) → begins axes points z ≡ leb 1 (sum-over (λ p. holds (eqb (getD p axes 0) z)) points)
+unfolding begins sum-over either holds
+begins-over axes [] z = refl
+begins-over axes (p ∷ points) z = go (eqb (getD p axes 0) z) (begins-over axes points z)
+  where
+    go : (t : Bool) → begins axes points z ≡ leb 1 (sum-over (λ p. holds (eqb (getD p axes 0) z)) points) → either t (begins axes points z) ≡ leb 1 (holds t + sum-over (λ p. holds (eqb (getD p axes 0) z)) points)
+    go true h = sym (le-leb 1 (1 + sum-over (λ p. holds (eqb (getD p axes 0) z)) points) (omega arith))
+    go false h = h ∙ ap (leb 1) (sym (zero-add (sum-over (λ p. holds (eqb (getD p axes 0) z)) points)))
+
+module _ {points : List (List ℕ)} {keys : List ℕ} (t : Taken 2 points keys) where
   abbrev z-of : ℕ → ℕ
   z-of j = getD keys j 0 / 512
 
@@ -143,7 +154,7 @@ pub record Layering (points : List (List ℕ)) (keys : List ℕ) (rx ry rz : ℕ
   pub counted : area ≡ total (rx ∷ ry ∷ []) (passed points keys i)
   pub left : sum-from sum (layers-at (rx ∷ ry ∷ []) rz points (those (begins 2 points) z (rz - z))) ≡ sum-from zero-double (layers (rx ∷ ry ∷ []) rz points)
 
-module _ {points : List (List ℕ)} {keys : List ℕ} (t : Taken points keys) (rx ry rz : ℕ) where
+module _ {points : List (List ℕ)} {keys : List ℕ} (t : Taken 2 points keys) (rx ry rz : ℕ) where
   -- the first level is that of the first key: below it no point begins
   from-first : (z : ℕ) → z ≡ level-at keys 0 rz → those (begins 2 points) z (rz - z) ≡ levels 2 rz points
   unfolding levels

@@ -3,7 +3,6 @@ use Prim.Native.Nat.{ℕ, _/_, _%_, _≤_, _<_}
 use mathlib.Core.Path.{_≡_, refl, ap, _∙_}
 use mathlib.Core.Bool.{Bool, true, false, not}
 use mathlib.Core.List.{List, map}
-use native.Mathlib.Omega.{arith}
 use lib.ListN.{length, take}
 use lib.Ieee.{Float}
 use borrow.Author.Tests.{lt-ltb, le-ltb, eq-eqb, ne-eqb}
@@ -11,26 +10,14 @@ use Rattle.slices.specs.Choices.{both, pick}
 use Rattle.words.specs.Format.{guard, within, each}
 use Rattle.hypervolume.specs.Sorted.{Small}
 use Rattle.words.proofs.Passed.{each-bounds}
-use Rattle.order.specs.Order.{Orderable}
+use Rattle.order.specs.Keys.{Keyed, Few}
 use Rattle.doubles.specs.Doubles.{number-of}
 use Rattle.volume.specs.declared.Corner.{Corner}
 use Rattle.volume.specs.declared.Volume.{Volume}
 use Rattle.volume.specs.declared.Volume.the-variants.{Cells, Refused}
 use Rattle.volume.specs.Volume.{corner, points-of, volume-rows, figure-of, figure, volume-or, volume}
-use Rattle.volume.specs.Layering.{Readable, Keyed, Few, Loaded}
+use Rattle.volume.specs.Layering.{Readable, Loaded}
 use Rattle.volume.proofs.Reading.{points-many}
-
--- The keys can be put in order.
-pub keyed-orderable : {points : List (List ℕ)} {keys : List ℕ} → Few points → Keyed points keys → Orderable keys
-keyed-orderable {points} {keys} f k =
-    record {
-      few = omega (arith, f .few, k .long);
-      small = λ i l. let inside : i < length points = omega (arith, k .long) in omega (arith, k .each i inside, f .small i 2, f .few);
-      placed = λ i j l m.
-          let first : i < length points = omega (arith, k .long) in
-          let second : j < length points = omega (arith, k .long) in
-          omega (arith, k .each i first, k .each j second, f .few);
-    }
 
 module _ (r : Corner) (ds : List Float) where
   pub row-17 : (length ds % 3 ≡ 0 → ⊥) → Refused 17 ≡ volume r ds
@@ -78,5 +65,5 @@ loaded-many {ds} l = ap length (l .all) ∙ points-many ds
 pub loaded-few : {ds : List Float} {points : List (List ℕ)} {keys : List ℕ} → Loaded ds points keys → Few (take (length ds / 3) points)
 loaded-few l = rw (l .all) (l .few)
 
-pub loaded-keyed : {ds : List Float} {points : List (List ℕ)} {keys : List ℕ} → Loaded ds points keys → Keyed (take (length ds / 3) points) (take (length ds / 3) keys)
+pub loaded-keyed : {ds : List Float} {points : List (List ℕ)} {keys : List ℕ} → Loaded ds points keys → Keyed 2 (take (length ds / 3) points) (take (length ds / 3) keys)
 loaded-keyed l = rw (l .all) (l .keyed)

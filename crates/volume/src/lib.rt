@@ -12,10 +12,11 @@ ghost use lib.ListN.{length, getD};
 ghost use Rattle.slices.specs.Choices.{pick};
 ghost use Rattle.hypervolume.specs.Sorted.{Small};
 ghost use Rattle.words.specs.Format.{within, each};
+ghost use Rattle.order.specs.Keys.{Keyed, Few, Taken};
 ghost use Rattle.doubles.specs.Doubles.{number-of};
 ghost use Rattle.volume.specs.Volume.{corner, points-of, figure-of, volume, answer-of};
 ghost use Rattle.volume.specs.declared.Volume.the-variants.{Cells, Refused};
-ghost use Rattle.volume.specs.Layering.{Readable, Keyed, Few, Loaded, Taken, level-at, layer-or};
+ghost use Rattle.volume.specs.Layering.{Readable, Loaded, level-at, layer-or};
 
 // The reference corner: three doubles.
 #[repr(C)]
@@ -111,7 +112,7 @@ fn add_level(sum: f64, area: u64, z: u32, next: u32) -> f64
 
 // The layers in turn.
 fn sum_layers(points: &[[u32; 3]], keys: &[u32], reference: Point, line: &mut [u64]) -> f64
-    requires { ⌜ Taken (now points) (now keys) × Small (reference .at) × (length (now line) ≡ 512) ⌝ }
+    requires { ⌜ Taken 2 (now points) (now keys) × Small (reference .at) × (length (now line) ≡ 512) ⌝ }
     ensures { λ r. ⌜ r ≡ figure-of (reference .at) (now (points .entry)) ⌝ }
 {
     let rx = reference.at[0] as u64;
@@ -137,7 +138,7 @@ fn sum_layers(points: &[[u32; 3]], keys: &[u32], reference: Point, line: &mut [u
 
 // The keys put in order, then the layers.
 fn in_order(points: &[[u32; 3]], keys: &mut [u32], ascending: &mut [u32], reference: Point) -> f64
-    requires { ⌜ Few (now points) × Keyed (now points) (now keys) × (length (now ascending) ≡ length (now points)) × Small (reference .at) ⌝ }
+    requires { ⌜ Few (now points) × Keyed 2 (now points) (now keys) × (length (now ascending) ≡ length (now points)) × Small (reference .at) ⌝ }
     ensures { λ r. ⌜ r ≡ figure-of (reference .at) (now (points .entry)) ⌝ }
 {
     order::order(keys, ascending);

@@ -1,6 +1,6 @@
 -- `in_order` meets its contract: the keys put in order, then the layers.
 use mathlib.Core.Path.{sym, _∙_}
-use Rattle.volume.proofs.Outcomes.{keyed-orderable}
+use Rattle.order.proofs.Keys.{keyed-orderable}
 use borrow.Author.Needs.{needs}
 use Rattle.volume.proofs.in_order.Statement.{statement}
 use Rattle.volume.proofs.in_order.Tie as tie
