@@ -5,15 +5,16 @@ use mathlib.Core.List.{List}
 use native.Mathlib.Omega.{arith}
 use lib.ListN.{length, take}
 use Rattle.slices.specs.Spread.{Sparse}
+use Rattle.slices.specs.Amounts.{Placed}
+use Rattle.slices.proofs.Placed.{sparse-placed}
 use Rattle.hypervolume.specs.Counts.{joints}
 use Rattle.corners.specs.declared.Updated.{Updated}
 use Rattle.words.specs.Archive.{Trial, Archive, point, reference, trials, points}
 use Rattle.words.specs.Layout.{read, word}
 use Rattle.calls.specs.Calls.{reference-of, insert-gain}
 use Rattle.records.specs.Columns.{leave-out}
-use Rattle.records.specs.Amounts.{Placed, shares}
+use Rattle.records.specs.Amounts.{shares}
 use Rattle.records.proofs.LeaveOut.{leave-none, left-fewer}
-use Rattle.records.proofs.Placed.{sparse-placed}
 use Rattle.records.proofs.MovedAmounts.{joints-shares}
 use Rattle.words.specs.Format.{archive-rows}
 use Rattle.calls.proofs.Known.{known, count-rows}

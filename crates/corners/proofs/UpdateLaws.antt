@@ -3,13 +3,14 @@
 use Prim.Native.Nat.{ℕ, suc, _+_, _-_, _≤_, _<_, max}
 use mathlib.Core.Path.{_≡_, refl, sym, ap, _∙_, fun-ext}
 use mathlib.Core.Bool.{Bool, true, false}
-use mathlib.Core.List.{List, _∷_, _++_, map, map-map, []}
+use mathlib.Core.List.{List, _++_, map, map-map, []}
 use mathlib.Core.Logic.{_⊎_, inl, inr}
 use native.Mathlib.Decide.{decLe}
 use native.Mathlib.Omega.{arith}
 use lib.ListN.{length, take, drop, getD, replicate, length-map, length-replicate, getD-replicate, List·getD-eq-default}
 use lib.Seq.{take-at, take-all, length-take-le, getD-take}
-use Rattle.slices.specs.Spread.{Sparse}
+use Rattle.slices.specs.Spread.{Sparse, Stands}
+use Rattle.slices.proofs.Due.{Due, due-spread}
 use Rattle.hypervolume.specs.Cells.{dominates, join, edges}
 use Rattle.hypervolume.specs.Counts.{total, contribution, gain, contributions, joints}
 use Rattle.hypervolume.specs.Sorted.{Small, Sorted}
@@ -17,10 +18,9 @@ use Rattle.hypervolume.proofs.Counting.{joint-corner, gain-edges, Twice}
 use Rattle.sweep.specs.Points.{Ready}
 use Rattle.sweep.proofs.Coordinates.{ascending-at}
 use Rattle.sweep.proofs.Front.{getD-mapped}
-use Rattle.corners.specs.Limits.{Limits, passing, Collecting, Stands, Collected}
+use Rattle.corners.specs.Limits.{Limits, passing, Collecting, Collected}
 use Rattle.corners.specs.Updating.{Updating}
 use Rattle.corners.proofs.Passing.{passing-total, passing-contribution, failing-contribution, limit-twice}
-use Rattle.corners.proofs.SpreadLaws.{Due, due-spread}
 use Rattle.corners.proofs.limits.LimitsLaws.{join-at, join-length}
 use Rattle.corners.proofs.limits.CollectLaws.{corner-at}
 

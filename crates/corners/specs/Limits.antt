@@ -5,6 +5,7 @@ use mathlib.Core.Bool.{Bool, true}
 use mathlib.Core.List.{List, _∷_, map, []}
 use lib.ListN.{length, take, getD, set}
 use Rattle.slices.specs.Choices.{pick}
+use Rattle.slices.specs.Spread.{Stands}
 use Rattle.hypervolume.specs.Cells.{dominates, join}
 use Rattle.hypervolume.specs.Counts.{cover}
 use Rattle.hypervolume.specs.Sorted.{Sorted}
@@ -36,12 +37,6 @@ pub record Collecting (points : List (List ℕ)) (u limit : List ℕ) (corners :
   pub above : dominates u limit ≡ true
   pub corners-room : length points ≤ length corners
   pub places-room : length points ≤ length places
-
--- j is one of the first m places.
-pub record Stands (places : List ℕ) (m j : ℕ) : Type 0 where
-  pub k : ℕ
-  pub within : k < m
-  pub here : getD places k 0 ≡ j
 
 -- Of the corners with the first i points, those within the limit are the first m of `corners`. Their points stand at the
 -- first m places, which ascend.

@@ -6,6 +6,7 @@ use mathlib.Core.Path.{_≡_}
 use mathlib.Core.List.{List, _++_}
 use lib.Dec.{ltb}
 use lib.ListN.{take}
+use Rattle.slices.specs.Amounts.{some-pair, Placed, amounts-at}
 use Rattle.words.specs.Archive.{Trial}
 use Rattle.words.specs.Layout.{layout, read, word, behind}
 use Rattle.words.specs.Format.{archive-rows}
@@ -14,7 +15,7 @@ use Rattle.records.specs.declared.amounts.Moved.{Moved}
 use Rattle.calls.specs.Calls.{box-of, insert-gain, insert-overruns, insert-rows, inserted}
 use Rattle.records.specs.Columns.{column}
 use Rattle.records.specs.Fronts.{fronted}
-use Rattle.records.specs.Amounts.{some-pair, Placed, amounts-at, shares}
+use Rattle.records.specs.Amounts.{shares}
 
 -- The joint counts of a new trial with the records, said by the places of those that need not be 0.
 pub record InsertShares (w : List ℕ) (t : Trial) (places counts : List ℕ) : Type 0 where

@@ -6,6 +6,7 @@ use mathlib.Core.Bool.{true}
 use mathlib.Core.List.{List, _∷_, _++_, []}
 use native.Mathlib.Omega.{arith}
 use lib.ListN.{length, getD, take}
+use Rattle.slices.specs.Amounts.{Each}
 use Rattle.slices.proofs.Choices.{both-true}
 use Rattle.hypervolume.specs.Cells.{box}
 use Rattle.hypervolume.specs.Sorted.{Sorted}
@@ -18,7 +19,6 @@ use Rattle.words.proofs.Passed.{Sound, row-bounds, shape-bounds, coordinates-sm
 use Rattle.calls.proofs.Known.{known, count-rows}
 use Rattle.calls.proofs.Order.{Ascent, lower, level, ascent}
 use Rattle.records.specs.Columns.{field-of, column, leave-out}
-use Rattle.records.specs.Amounts.{Each}
 use Rattle.records.specs.Loaded.{PointsLoaded}
 use Rattle.records.proofs.LeaveOut.{leave-none, left-allowed, left-ordered, left-fewer}
 use Rattle.records.proofs.RowAt.{blank}

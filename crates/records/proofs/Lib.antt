@@ -1,7 +1,6 @@
 -- Laws of the records in the words, for all functions over them.
 pub mod Columns
 pub mod MovedAmounts
-pub mod Placed
 pub mod LeaveOut
 pub mod Ranks
 pub mod RowAt

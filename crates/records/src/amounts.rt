@@ -6,10 +6,10 @@ ghost use Prim.Native.Nat.{ℕ, _+_, _-_, _*_, _≤_, _<_};
 ghost use lib.Dec.{ltb, eqb};
 ghost use lib.ListN.{length, getD};
 ghost use Rattle.slices.specs.Put.{put};
+ghost use Rattle.slices.specs.Amounts.{some-pair, moved, Each, Placed, amounts-at};
 ghost use Rattle.words.specs.Layout.{records};
 ghost use Rattle.words.specs.Places.{rows-before};
 ghost use Rattle.records.specs.Columns.{column, leave-out, place-but, rekept};
-ghost use Rattle.records.specs.Amounts.{some-pair, moved, Each, Placed, amounts-at};
 
 // Whether a contribution of the first records differs from its count.
 pub fn some_differs(w: &[u64], counts: &[u64]) -> bool

@@ -7,6 +7,7 @@ use mathlib.Core.Path.{_≡_}
 use mathlib.Core.List.{List, _∷_, _++_, []}
 use lib.ListN.{length, getD, take, drop}
 use Rattle.slices.specs.Put.{put}
+use Rattle.slices.specs.Amounts.{Each}
 use Rattle.hypervolume.specs.Cells.{box}
 use Rattle.hypervolume.specs.Sorted.{Small, Sorted}
 use Rattle.words.specs.Archive.{Row, Archive, trials, points}
@@ -15,7 +16,6 @@ use Rattle.words.specs.Format.{shape-allowed, sound-rows, archive-rows}
 use Rattle.calls.specs.Calls.{reference-of, least-row}
 use Rattle.calls.specs.Counted.{IsCounted}
 use Rattle.records.specs.Columns.{column}
-use Rattle.records.specs.Amounts.{Each}
 
 -- The list without what stands at place k.
 unfoldable pub closed : {A : Type 0} → ℕ → List A → List A

@@ -5,13 +5,14 @@ use mathlib.Core.Bool.{not}
 use mathlib.Core.Path.{_≡_}
 use mathlib.Core.List.{List}
 use Rattle.slices.specs.Spread.{Sparse}
+use Rattle.slices.specs.Amounts.{Placed, amounts-at}
 use Rattle.words.specs.Layout.{read, word}
 use Rattle.words.specs.Format.{archive-rows}
 use Rattle.words.specs.Places.{row-at}
 use Rattle.records.specs.declared.amounts.Moved.{Moved}
 use Rattle.calls.specs.Calls.{without, removal-loss, remove-overruns}
 use Rattle.records.specs.Columns.{leave-out}
-use Rattle.records.specs.Amounts.{Placed, amounts-at, shares}
+use Rattle.records.specs.Amounts.{shares}
 
 -- The number of the record at a place.
 abbrev pub number-at : List ℕ → ℕ → ℕ

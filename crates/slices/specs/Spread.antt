@@ -2,7 +2,7 @@
 use Prim.Native.Nat.{ℕ, suc, _≤_, _<_}
 use mathlib.Core.Path.{_≡_}
 use mathlib.Core.List.{List, _∷_, []}
-use lib.ListN.{length, take, getD, set, replicate}
+use lib.ListN.{take, getD, set, replicate}
 
 -- The list with these numbers at these places, and every other number as before.
 unfoldable pub spread : List ℕ → List ℕ → List ℕ → List ℕ
@@ -16,3 +16,9 @@ pub record Sparse (n : ℕ) (all places numbers : List ℕ) (m : ℕ) : Type 0 w
   pub inside : (k : ℕ) → k < m → getD places k 0 < n
   pub rising : (k : ℕ) → suc k < m → getD places k 0 < getD places (suc k) 0
   pub is-spread : all ≡ spread (replicate n 0) (take m places) (take m numbers)
+
+-- j is one of the first m places.
+pub record Stands (places : List ℕ) (m j : ℕ) : Type 0 where
+  pub k : ℕ
+  pub within : k < m
+  pub here : getD places k 0 ≡ j

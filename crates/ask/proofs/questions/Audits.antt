@@ -8,6 +8,7 @@ use borrow.Author.Tests.{eq-eqb, ne-eqb}
 use lib.ListN.{length, take}
 use lib.Seq.{take-at}
 use Rattle.slices.specs.Choices.{both, either}
+use Rattle.slices.specs.Amounts.{some-pair}
 use Rattle.hypervolume.specs.Counts.{total, contribution, contributions}
 use Rattle.hypervolume.specs.Front.{front}
 use Rattle.words.specs.Archive.{Row, Archive, point, trials, points}
@@ -15,7 +16,6 @@ use Rattle.words.specs.Layout.{read, word, record-words}
 use Rattle.words.specs.Places.{rows-before}
 use Rattle.calls.specs.Calls.{reference-of, held-points, rows-counted, audited}
 use Rattle.records.specs.Columns.{field-of, column}
-use Rattle.records.specs.Amounts.{some-pair}
 use Rattle.records.proofs.HeldPoints.{length-points}
 use Rattle.ask.specs.RecordCounts.{CountedAll}
 use Rattle.ask.proofs.questions.Joints.{length-each}

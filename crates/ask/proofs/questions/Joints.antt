@@ -15,9 +15,9 @@ use Rattle.words.specs.Format.{archive-rows}
 use Rattle.words.specs.Places.{row-at}
 use Rattle.calls.specs.Calls.{reference-of, held-points, joint-of, row-of}
 use Rattle.slices.specs.Choices.{pick}
+use Rattle.slices.specs.Amounts.{amounts-at}
 use Rattle.corners.specs.declared.Updated.{Updated}
 use Rattle.records.specs.Columns.{leave-out, place-but}
-use Rattle.records.specs.Amounts.{amounts-at}
 use Rattle.ask.specs.RecordCounts.{CountedJoints}
 use Rattle.calls.proofs.Known.{known, count-rows}
 use Rattle.records.proofs.LeaveOut.{row-of-at, length-leave-out, leave-at}

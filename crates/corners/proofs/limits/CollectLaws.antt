@@ -11,11 +11,12 @@ use lib.Seq.{take-suc, take-suc-set, take-all, getD-drop, getD-set-same, getD-se
 use lib.Dec.{leb}
 use borrow.Author.Tests.{leb-true}
 use Rattle.slices.specs.Choices.{pick}
+use Rattle.slices.specs.Spread.{Stands}
 use Rattle.slices.proofs.Choices.{both-true}
 use Rattle.hypervolume.specs.Cells.{dominates, join}
 use Rattle.sweep.proofs.Front.{getD-mapped}
 use Rattle.sweep.proofs.Coordinates.{ascending-at}
-use Rattle.corners.specs.Limits.{passing, Collecting, Stands, Collected}
+use Rattle.corners.specs.Limits.{passing, Collecting, Collected}
 use Rattle.corners.proofs.Passing.{corner-within, passing-append, passing-none}
 
 -- The corner with the j-th point.

@@ -11,12 +11,12 @@ use Rattle.hypervolume.proofs.Counting.{gain-le-box}
 use Rattle.corners.specs.declared.Updated.{Updated}
 use Rattle.words.specs.Archive.{Trial, point}
 use Rattle.slices.specs.Choices.{either}
+use Rattle.slices.specs.Amounts.{some-pair, Placed, amounts-at}
 use Rattle.words.specs.Layout.{read, word}
 use Rattle.words.specs.Format.{archive-rows}
 use Rattle.words.specs.Places.{rows-before}
 use Rattle.calls.specs.Calls.{reference-of, held-points, box-of, insert-gain, falls-below, insert-overruns}
 use Rattle.records.specs.Columns.{column}
-use Rattle.records.specs.Amounts.{some-pair, Placed, amounts-at}
 use Rattle.ask.specs.RecordCounts.{CountedJoints}
 use Rattle.ask.proofs.CountedAmounts.{all-gain, all-shares, all-rows, counted-few, counted-placed}
 use Rattle.insertion.specs.Inserting.{InsertShares, InsertAmounts}

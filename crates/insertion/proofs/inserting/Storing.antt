@@ -18,6 +18,7 @@ use Rattle.calls.proofs.Known.{count-rows, known}
 use Rattle.records.proofs.Stored
 use Rattle.records.proofs.Stored.{rows-put}
 use Rattle.slices.specs.Put.{put}
+use Rattle.slices.specs.Amounts.{moved, some-pair, amounts-at}
 use Rattle.slices.proofs.Put.{put-over}
 use Rattle.words.proofs.Reading.{length-records, length-read-rows}
 use Rattle.calls.proofs.Members.{place-length, trials-map}
@@ -26,7 +27,6 @@ use borrow.Author.Tests.{not-true, not-false, ltb-false}
 use Rattle.slices.proofs.Choices.{either-false}
 use Rattle.words.specs.Format.{archive-rows}
 use Rattle.records.specs.declared.amounts.Moved.{Moved}
-use Rattle.records.specs.Amounts.{moved, some-pair, amounts-at}
 use Rattle.insertion.specs.Inserting.{InsertAmounts, InsertReady, entered}
 use Rattle.records.proofs.MovedAmounts.{lowered-rows, falls-below-pairs}
 

@@ -8,16 +8,16 @@ use lib.ListN.{length, take, drop, set, getD, length-drop, length-set}
 use lib.Seq.{set-append-left, length-take-le}
 use borrow.Author.Tests.{le-ltb}
 use Rattle.slices.specs.Put.{put}
+use Rattle.slices.specs.Amounts.{moved, Each, Placed, amounts-at}
 use Rattle.slices.proofs.Put.{put-inside, put-same}
+use Rattle.slices.proofs.PlacedLoops.{Judging, judging-none, Placing, placing-none, placing-here, placing-more, placing-end}
 use Rattle.words.specs.Archive.{Row}
 use Rattle.words.specs.Layout.{record-words, records, read-rows}
 use Rattle.words.proofs.Reading.{length-records, length-read-rows, records-read}
 use Rattle.records.specs.Columns.{field-of, column, leave-out, place-but, rekept}
-use Rattle.records.specs.Amounts.{moved, Each, Placed, amounts-at}
 use Rattle.records.proofs.Columns.{length-column, column-at, length-rekept}
 use Rattle.records.proofs.LeaveOut.{length-leave-out, leave-at, place-but-below}
 use Rattle.records.proofs.RowAt.{blank}
-use Rattle.records.proofs.amounts.PlacedLoops.{Judging, judging-none, Placing, placing-none, placing-here, placing-more, placing-end}
 
 -- A word set in a part.
 set-behind : (xs ys : List ℕ) (n i v : ℕ) → length xs ≡ n → set (xs ++ ys) (n + i) v ≡ xs ++ set ys i v

@@ -9,6 +9,7 @@ use Rattle.words.specs.Archive.{Trial, Row, Archive, point, trials, points}
 use Rattle.words.specs.Layout.{record-words}
 use Rattle.words.specs.Format.{sound-rows, distinct}
 use Rattle.words.proofs.Passed.{Sound}
+use Rattle.slices.specs.Amounts.{moved}
 use Rattle.slices.proofs.Choices.{both-true, both-intro}
 use Rattle.hypervolume.proofs.Counting.{total-le-box}
 use Rattle.calls.specs.Calls.{reference-of, held-points, row-of, others, without, removal-loss, insert-gain, raised, removed, least-row, dropped}
@@ -17,7 +18,7 @@ use Rattle.calls.proofs.Drops.{leaving, DropKeeps, drop-keeps}
 use Rattle.calls.proofs.Counted.{removed-trials}
 use Rattle.calls.proofs.Sound.{front-few}
 use Rattle.records.specs.Columns.{field-of, column, leave-out}
-use Rattle.records.specs.Amounts.{moved, shares}
+use Rattle.records.specs.Amounts.{shares}
 use Rattle.records.proofs.LeaveOut.{others-at, row-of-at}
 use Rattle.records.proofs.MovedAmounts.{joints-shares}
 use Rattle.records.proofs.RowAt.{blank}

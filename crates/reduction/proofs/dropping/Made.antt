@@ -7,6 +7,7 @@ use native.Mathlib.Omega.{arith}
 use lib.ListN.{length, take, getD, length-take}
 use lib.Seq.{getD-take}
 use Rattle.slices.specs.Put.{put}
+use Rattle.slices.specs.Amounts.{moved, Each}
 use Rattle.hypervolume.specs.Cells.{box}
 use Rattle.hypervolume.specs.Counts.{gain, joints}
 use Rattle.hypervolume.specs.Sorted.{Small, Sorted}
@@ -17,7 +18,6 @@ use Rattle.calls.proofs.Members.{split}
 use Rattle.calls.proofs.Counted.{total-removed}
 use Rattle.calls.proofs.Drops.{leaving, DropKeeps, drop-keeps}
 use Rattle.records.specs.Columns.{column}
-use Rattle.records.specs.Amounts.{moved, Each}
 use Rattle.records.proofs.Columns.{length-column}
 use Rattle.records.proofs.HeldPoints.{length-points, sound-sorted, column-each}
 use Rattle.records.proofs.RowAt.{blank}

@@ -8,12 +8,12 @@ use native.Mathlib.Omega.{arith}
 use lib.ListN.{length, take, getD, replicate, length-replicate, List·getD-eq-default}
 use lib.Seq.{length-take-le, take-at, getD-take}
 use Rattle.slices.specs.Spread.{spread, Sparse}
+use Rattle.slices.specs.Amounts.{moved, Each, Placed, amounts-at}
 use Rattle.slices.proofs.Spread.{spread-at}
 use Rattle.hypervolume.specs.Cells.{box}
 use Rattle.hypervolume.specs.Counts.{joint, joints}
 use Rattle.hypervolume.proofs.Counting.{joint-le-box}
 use Rattle.corners.specs.Updating.{Updating}
-use Rattle.records.specs.Amounts.{moved, Each, Placed, amounts-at}
 use Rattle.reduction.specs.Columns.{Scratch, Recounting}
 
 -- No joint count is above the box.

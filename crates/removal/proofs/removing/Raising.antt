@@ -9,7 +9,8 @@ use borrow.Author.Tests.{lt-ltb, le-ltb}
 use lib.ListN.{length, getD, take}
 use Rattle.slices.specs.Choices.{either}
 use Rattle.slices.specs.Spread.{Sparse}
-use Rattle.hypervolume.specs.Cells.{box}
+use Rattle.slices.specs.Amounts.{some-pair, Each, Placed, amounts-at}
+use Rattle.slices.proofs.Placed.{counts-low}
 use Rattle.hypervolume.proofs.Counting.{joint-le-box}
 use Rattle.corners.specs.declared.Updated.{Updated}
 use Rattle.words.specs.Archive.{Trial, Row, Archive, point}
@@ -18,14 +19,13 @@ use Rattle.words.specs.Format.{archive-rows}
 use Rattle.words.specs.Places.{rows-before, row-at}
 use Rattle.calls.specs.Calls.{reference-of, held-points, box-of, insert-gain, joint-with, row-of, others, without, removal-loss, exceeds, remove-overruns}
 use Rattle.records.specs.Columns.{column, leave-out}
-use Rattle.records.specs.Amounts.{some-pair, Each, Placed, amounts-at, shares}
+use Rattle.records.specs.Amounts.{shares}
 use Rattle.ask.specs.RecordCounts.{CountedJoints}
 use Rattle.removal.specs.Removing.{number-at, removal-shares, RemoveAmounts}
 use Rattle.records.proofs.HeldPoints.{column-each}
 use Rattle.records.proofs.LeaveOut.{others-at, row-of-at, length-leave-out, left-allowed}
 use Rattle.calls.proofs.Known.{count-rows, known}
 use Rattle.records.proofs.MovedAmounts.{exceeds-pairs}
-use Rattle.records.proofs.Placed.{counts-low}
 use Rattle.records.proofs.RowAt.{blank, row-there}
 use Rattle.ask.proofs.CountedAmounts.{amounts-gain, amounts-shares}
 

@@ -20,18 +20,18 @@ use Rattle.records.proofs.LeaveOut.{length-leave-out}
 use Rattle.records.proofs.Stored
 use Rattle.records.proofs.Stored.{rows-put}
 use Rattle.slices.specs.Put.{put}
+use Rattle.slices.specs.Amounts.{moved, Each, amounts-at}
 use Rattle.slices.proofs.Put.{put-front-over}
 use Rattle.words.proofs.Reading.{length-records}
 use lib.Dec.{ltb}
 use borrow.Author.Tests.{not-true, not-false, ltb-false}
 use Rattle.slices.proofs.Choices.{either-false}
+use Rattle.slices.proofs.Placed.{sparse-placed}
 use Rattle.words.specs.Format.{archive-rows, held}
 use Rattle.calls.proofs.Sound.{removed-sound}
 use Rattle.records.proofs.RowAt.{blank}
 use Rattle.records.specs.declared.amounts.Moved.{Moved}
-use Rattle.records.specs.Amounts.{moved, Each, amounts-at}
 use Rattle.removal.specs.Removing.{number-at, removal-shares, RemoveAmounts, RemoveReady}
-use Rattle.records.proofs.Placed.{sparse-placed}
 use Rattle.records.proofs.MovedAmounts.{raised-rows}
 use Rattle.removal.proofs.removing.Raising.{removing, kept-each, placed-low, box-fits}
 

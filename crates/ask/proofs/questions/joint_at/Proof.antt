@@ -5,12 +5,12 @@ use native.Mathlib.Omega.{arith}
 use lib.ListN.{length, take}
 use lib.Seq.{length-take-le}
 use borrow.Author.Needs.{needs}
+use Rattle.slices.specs.Amounts.{Placed}
 use Rattle.hypervolume.specs.Sorted.{Small}
 use Rattle.words.specs.Archive.{point}
 use Rattle.words.specs.Layout.{read}
 use Rattle.words.specs.Places.{row-at}
 use Rattle.records.specs.Columns.{leave-out}
-use Rattle.records.specs.Amounts.{Placed}
 use Rattle.words.proofs.Places.{held-small, point-at}
 use Rattle.ask.proofs.CountedAmounts.{counted-few, counted-placed}
 use Rattle.ask.proofs.questions.Joints.{joint-counted}

@@ -3,7 +3,7 @@ use Prim.Native.Nat.{_-_}
 use mathlib.Core.Path.{refl}
 use native.Mathlib.Omega.{arith}
 use lib.ListN.{length}
-use Rattle.records.proofs.amounts.PlacedLoops.{Missed, missed-none, missed-more, missed-found, missed-end}
+use Rattle.slices.proofs.PlacedLoops.{Missed, missed-none, missed-more, missed-found, missed-end}
 use Rattle.records.proofs.amounts.amount_at.Statement.{statement}
 use Rattle.records.proofs.amounts.amount_at.Tie as tie
 

@@ -4,9 +4,9 @@ use native.Mathlib.Omega.{arith}
 use borrow.Author.Tests.{lt-ltb, le-ltb}
 use lib.Dec.{ltb}
 use lib.ListN.{length}
+use Rattle.slices.proofs.PlacedLoops.{Judging, judging-found, judging-more, judging-end}
 use Rattle.words.specs.Places.{rows-before}
 use Rattle.records.specs.Columns.{column}
-use Rattle.records.proofs.amounts.PlacedLoops.{Judging, judging-found, judging-more, judging-end}
 use Rattle.records.proofs.amounts.KeptWords.{none-below, contribution-at}
 use Rattle.records.proofs.amounts.enough.Statement.{statement}
 use Rattle.records.proofs.amounts.enough.Tie as tie

@@ -7,9 +7,9 @@ use native.Mathlib.Omega.{arith}
 use lib.ListN.{length, getD}
 use lib.Dec.{ltb}
 use borrow.Author.Tests.{ltb-false}
+use Rattle.slices.proofs.PlacedLoops.{no-pair-here}
 use Rattle.words.specs.Places.{rows-before}
 use Rattle.records.specs.Columns.{column}
-use Rattle.records.proofs.amounts.PlacedLoops.{no-pair-here}
 use Rattle.records.proofs.amounts.KeptWords.{Storing, storing-none, storing-inside, storing-here, storing-more, storing-end}
 use Rattle.records.proofs.amounts.lower_at.Statement.{statement}
 use Rattle.records.proofs.amounts.lower_at.Tie as tie

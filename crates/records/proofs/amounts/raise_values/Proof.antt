@@ -3,7 +3,7 @@ use Prim.Native.Nat.{_+_, _-_}
 use mathlib.Core.Path.{refl}
 use native.Mathlib.Omega.{arith}
 use lib.ListN.{length, getD}
-use Rattle.records.proofs.amounts.PlacedLoops.{Placing, placing-none, placing-inside, placing-here, placing-more, placing-end}
+use Rattle.slices.proofs.PlacedLoops.{Placing, placing-none, placing-inside, placing-here, placing-more, placing-end}
 use Rattle.records.proofs.amounts.raise_values.Statement.{statement}
 use Rattle.records.proofs.amounts.raise_values.Tie as tie
 

@@ -5,9 +5,9 @@ use mathlib.Core.Bool.{not}
 use native.Mathlib.Omega.{arith}
 use lib.ListN.{length, getD}
 use lib.Dec.{eqb}
+use Rattle.slices.proofs.PairLoops.{Seeking, seeking-none, seeking-end, differing-found, differing-more}
 use Rattle.words.specs.Places.{rows-before}
 use Rattle.records.specs.Columns.{column}
-use Rattle.records.proofs.amounts.PairLoops.{Seeking, seeking-none, seeking-end, differing-found, differing-more}
 use Rattle.records.proofs.amounts.KeptWords.{kept-none, contribution-at}
 use Rattle.records.proofs.amounts.some_differs.Statement.{statement}
 use Rattle.records.proofs.amounts.some_differs.Tie as tie

@@ -4,9 +4,9 @@ use native.Mathlib.Omega.{arith}
 use borrow.Author.Tests.{lt-ltb, le-ltb}
 use lib.Dec.{ltb}
 use lib.ListN.{length, getD}
+use Rattle.slices.proofs.PlacedLoops.{Judging, judging-found, judging-more, judging-end}
 use Rattle.words.specs.Places.{rows-before}
 use Rattle.records.specs.Columns.{column, leave-out}
-use Rattle.records.proofs.amounts.PlacedLoops.{Judging, judging-found, judging-more, judging-end}
 use Rattle.records.proofs.amounts.KeptWords.{none-above, word-but-inside, contribution-but}
 use Rattle.records.proofs.amounts.within.Statement.{statement}
 use Rattle.records.proofs.amounts.within.Tie as tie

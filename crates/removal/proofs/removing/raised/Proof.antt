@@ -8,6 +8,8 @@ use lib.Seq.{length-take-le}
 use Rattle.hypervolume.specs.Cells.{box}
 use Rattle.hypervolume.specs.Sorted.{Small}
 use Rattle.slices.specs.Spread.{Sparse}
+use Rattle.slices.specs.Amounts.{Placed}
+use Rattle.slices.proofs.Placed.{sparse-placed}
 use Rattle.words.specs.Archive.{point}
 use Rattle.words.specs.Layout.{read, word}
 use Rattle.words.specs.Places.{row-at}
@@ -15,8 +17,6 @@ use Rattle.words.proofs.Passed.{reference-small}
 use Rattle.words.proofs.Places.{held-small, point-at}
 use Rattle.calls.specs.Calls.{box-of, removal-loss}
 use Rattle.calls.proofs.Known.{known}
-use Rattle.records.specs.Amounts.{Placed}
-use Rattle.records.proofs.Placed.{sparse-placed}
 use Rattle.ask.proofs.CountedAmounts.{counted-few}
 use Rattle.removal.specs.Removing.{number-at, removal-shares}
 use Rattle.removal.proofs.removing.Raising.{loss-counted, shares-counted, low-asked, limit-fits, raised-over, raised-judged}

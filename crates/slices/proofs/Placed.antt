@@ -1,5 +1,5 @@
--- Amounts said by the places of those that are not 0: each at its place, none above a limit that all keep, and as an update
--- leaves them.
+-- Amounts said by the places of those that are not 0: each at its place, none above a limit that all keep, and those of a list
+-- that is said so.
 use Prim.Native.Nat.{ℕ, suc, _≤_, _<_}
 use mathlib.Core.Path.{_≡_, sym, _∙_}
 use mathlib.Core.List.{List}
@@ -7,9 +7,9 @@ use native.Mathlib.Decide.{decLt}
 use native.Mathlib.Omega.{arith}
 use lib.ListN.{length, take, getD, replicate, length-replicate, List·getD-eq-default}
 use lib.Seq.{length-take-le, getD-take}
 use Rattle.slices.specs.Spread.{Sparse}
+use Rattle.slices.specs.Amounts.{Each, Placed, amounts-at}
 use Rattle.slices.proofs.Spread.{spread-at}
-use Rattle.records.specs.Amounts.{Each, Placed, amounts-at}
 
 -- The k-th of them stands at the k-th place.
 pub amount-at : {n : ℕ} {places counts : List ℕ} → Placed n places counts → (k : ℕ) → k < length places → getD (amounts-at n places counts) (getD places k 0) 0 ≡ getD counts k 0
@@ -28,7 +28,7 @@ counts-low {n} {places} {counts} limit h low k = go (decLt k (length places))
         let none : getD counts k 0 ≡ 0 = List·getD-eq-default counts 0 (let m : length counts ≤ k = omega arith in m) in
         omega arith
 
--- The first m places and numbers of a list that they say, as these functions take them.
+-- The first m places and numbers of a list that they say.
 pub sparse-placed : {n : ℕ} {all places numbers : List ℕ} {m : ℕ} → Sparse n all places numbers m → m ≤ length places → m ≤ length numbers
     → Placed n (take m places) (take m numbers)
 sparse-placed {n} {all} {places} {numbers} {m} h l₁ l₂ =

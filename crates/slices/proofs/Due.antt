@@ -2,15 +2,12 @@
 use Prim.Native.Nat.{ℕ, zero, suc, _<_}
 use mathlib.Core.Path.{_≡_, sym, _∙_}
 use mathlib.Core.List.{List, _∷_, []}
-use mathlib.Core.Bool.{Bool, true, false}
 use mathlib.Core.Logic.{_⊎_, inl, inr, ⊎-elim}
+use native.Mathlib.Decide.{ℕ-discrete}
 use native.Mathlib.Omega.{arith}
-use lib.Dec.{eqb}
 use lib.ListN.{length, getD, set, length-set}
 use lib.Seq.{getD-set-same, getD-set-other, ext-getD}
-use Rattle.slices.specs.Spread.{spread}
-use Rattle.hypervolume.proofs.Tests.{Equated, same, differs, equated}
-use Rattle.corners.specs.Limits.{Stands}
+use Rattle.slices.specs.Spread.{spread, Stands}
 
 -- Each place holds already what `all` has there, or is one that a number is put at; the numbers are those of `all`.
 pub record Due (all l places numbers : List ℕ) : Type 0 where
@@ -27,7 +24,7 @@ due-rest {all} {l} {places} {numbers} {p} {v} h =
       many = omega (arith, h .many);
       inside = λ k m. h .inside (suc k) (omega arith);
       right = λ k m. h .right (suc k) (omega arith);
-      every = λ j m. every j (eqb j p) (equated j p) (h .every j m);
+      every = λ j m. every j (ℕ-discrete j p) (h .every j m);
     }
   where
     put : (j : ℕ) → j ≡ p → getD (set l p v) j 0 ≡ getD all j 0
@@ -39,10 +36,10 @@ due-rest {all} {l} {places} {numbers} {p} {v} h =
     later j d zero m e = absurd (d (sym e))
     later j d (suc k) m e = record { k = k; within = omega arith; here = e }
 
-    every : (j : ℕ) (t : Bool) → Equated j p t → (getD l j 0 ≡ getD all j 0) ⊎ Stands (p ∷ places) (suc (length places)) j → (getD (set l p v) j 0 ≡ getD all j 0) ⊎ Stands places (length places) j
-    every j true (same e) s = inl (put j e)
-    every j false (differs d) (inl e) = inl (getD-set-other l p j v 0 d ∙ e)
-    every j false (differs d) (inr s) = inr (later j d (s .k) (s .within) (s .here))
+    every : (j : ℕ) → Dec (j ≡ p) → (getD l j 0 ≡ getD all j 0) ⊎ Stands (p ∷ places) (suc (length places)) j → (getD (set l p v) j 0 ≡ getD all j 0) ⊎ Stands places (length places) j
+    every j (yes e) s = inl (put j e)
+    every j (no d) (inl e) = inl (getD-set-other l p j v 0 d ∙ e)
+    every j (no d) (inr s) = inr (later j d (s .k) (s .within) (s .here))
 
 pub due-spread : (all l places numbers : List ℕ) → Due all l places numbers → all ≡ spread l places numbers
 unfolding spread

@@ -9,8 +9,8 @@ use lib.Dec.{eqb}
 use borrow.Author.Tests.{eq-eqb, ne-eqb}
 use lib.ListN.{length, drop, getD, drop-of-length-le}
 use lib.Seq.{drop-cons}
 use Rattle.slices.specs.Choices.{either}
-use Rattle.records.specs.Amounts.{some-pair}
+use Rattle.slices.specs.Amounts.{some-pair}
 
 -- The i pairs passed do not pass the test, so what is left decides.
 pub record Seeking (test : ℕ → ℕ → Bool) (vs ms : List ℕ) (i : ℕ) : Type 0 where

@@ -1,6 +1,6 @@
 -- The loops over counts at places: one looks for a pair that passes a test, the other moves the values there. What they leave
 -- is said of all amounts, those that are 0 among them.
-use Prim.Native.Nat.{ℕ, suc, _+_, _≤_, _<_}
+use Prim.Native.Nat.{ℕ, _+_, _≤_, _<_}
 use mathlib.Core.Path.{_≡_, refl, sym, ap, ap₂, _∙_}
 use mathlib.Core.Bool.{Bool, true, false, not}
 use mathlib.Core.List.{List}
@@ -9,11 +9,11 @@ use native.Mathlib.Numerals.{add-one}
 use native.Mathlib.Omega.{arith}
 use lib.ListN.{length, take, set, getD, replicate, length-set}
 use lib.Seq.{take-length}
 use Rattle.slices.specs.Spread.{spread}
+use Rattle.slices.specs.Amounts.{moved, some-pair, Placed, amounts-at}
 use Rattle.slices.proofs.Spread.{length-spread-zeros, spread-more, spread-other, spread-before, zeros-at}
-use Rattle.records.specs.Amounts.{moved, some-pair, Placed, amounts-at}
-use Rattle.records.proofs.Placed.{amount-at}
-use Rattle.records.proofs.MovedAmounts.{length-moved, moved-at, moved-set, moved-zeros, some-pair-at, no-pair-at, no-pair-set, no-pair-zeros}
+use Rattle.slices.proofs.Placed.{amount-at}
+use Rattle.slices.proofs.Amounts.{moved-at, moved-set, moved-zeros, some-pair-at, no-pair-at, no-pair-set, no-pair-zeros}
 
 -- The amounts at the first k places.
 unfoldable pub first-amounts : ℕ → List ℕ → List ℕ → ℕ → List ℕ
