@@ -63,13 +63,6 @@ pub record DropReady (reference : List ℕ) (n total : ℕ) (numbers : List ℕ)
   pub inside : InColumns archive reference n total numbers coordinates kept
   pub droppable : Droppable archive
 
--- Room to count an update of n points in.
-pub record Scratch (n : ℕ) (corners : List (List ℕ)) (places line counts : List ℕ) : Type 0 where
-  pub corners-room : n ≤ length corners
-  pub places-room : n ≤ length places
-  pub line-room : n ≤ length line
-  pub counts-room : n ≤ length counts
-
 -- What recounting asks of the first m points and contributions: those of a sound archive, and room for the numbers.
 pub record Recounting (coordinates : List (List ℕ)) (kept : List ℕ) (m : ℕ) (u reference : List ℕ) : Type 0 where
   pub points-room : m ≤ length coordinates

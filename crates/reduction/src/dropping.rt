@@ -14,9 +14,10 @@ ghost use lib.ListN.{length, take};
 ghost use Rattle.slices.specs.Put.{put};
 ghost use Rattle.slices.specs.Amounts.{moved};
 ghost use Rattle.hypervolume.specs.Counts.{gain, joints};
+ghost use Rattle.corners.specs.Updating.{Scratch};
 ghost use Rattle.words.specs.Archive.{Archive};
 ghost use Rattle.calls.specs.Calls.{dropped, note};
-ghost use Rattle.reduction.specs.Columns.{LeastNoted, GapClosed, Scratch, Recounting, InColumns, Droppable, DropReady};
+ghost use Rattle.reduction.specs.Columns.{LeastNoted, GapClosed, Recounting, InColumns, Droppable, DropReady};
 
 // Notes number and contribution of the least contributor of the first n places, by a tie rule, at `at`. Answers its place.
 fn note_least(

@@ -20,7 +20,7 @@ ghost use Rattle.words.specs.Format.{within, shape-allowed, number-allow
 ghost use Rattle.words.specs.Places.{as-row, as-shape, follows, stands, AtPlace, Headed};
 ghost use Rattle.words.specs.Table.{marked, Marking};
 
-fn within(low: u64, high: u64, n: u64) -> bool
+pub fn within(low: u64, high: u64, n: u64) -> bool
     ensures { λ r. ⌜ r ≡ within low high n ⌝ }
 {
     both(low <= n, n <= high)

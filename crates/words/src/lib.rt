@@ -10,6 +10,7 @@ pub use check::mark;
 pub use check::number_allowed;
 pub use check::refusal;
 pub use check::shape_allowed;
+pub use check::within;
 pub use header::put_header;
 pub use rows::Record;
 pub use rows::Row;

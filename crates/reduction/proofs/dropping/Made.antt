@@ -21,7 +21,8 @@ use Rattle.records.specs.Columns.{column}
 use Rattle.records.proofs.Columns.{length-column}
 use Rattle.records.proofs.HeldPoints.{length-points, sound-sorted, column-each}
 use Rattle.records.proofs.RowAt.{blank}
-use Rattle.reduction.specs.Columns.{closed, LeastNoted, RowsInColumns, InColumns, GapClosed, Droppable, Scratch, Recounting}
+use Rattle.corners.specs.Updating.{Scratch}
+use Rattle.reduction.specs.Columns.{closed, LeastNoted, RowsInColumns, InColumns, GapClosed, Droppable, Recounting}
 use Rattle.reduction.proofs.columns.Ranking.{number-in, kept-in}
 use Rattle.reduction.proofs.columns.Records.{row-in}
 use Rattle.reduction.proofs.columns.Dropping.{sound-archive, numbers-after, points-after, kept-after, loss-is, sum-after}

@@ -10,7 +10,8 @@ use Rattle.slices.specs.Put.{put}
 use Rattle.slices.proofs.Put.{put-none, put-then}
 use Rattle.words.specs.Archive.{Archive}
 use Rattle.calls.specs.Calls.{removed, dropped, note, after-drops, notes}
-use Rattle.reduction.specs.Columns.{InColumns, Droppable, DropReady, Scratch}
+use Rattle.corners.specs.Updating.{Scratch}
+use Rattle.reduction.specs.Columns.{InColumns, Droppable, DropReady}
 use Rattle.reduction.proofs.columns.Dropping.{droppable-after}
 
 -- One drop more, at the end.
