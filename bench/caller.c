@@ -4,9 +4,10 @@
  * and archives kept from before it, ties by both rules, cards written back and
  * loaded again, one meeting with each refusal, coordinates on both sides of
  * every limit, numbers as C passes them, volumes in doubles bit for bit and with
- * bad doubles at every place, and what the header defines: the structs' fields
- * and the lengths. Lent memory stands between guards, and what a call only reads
- * is compared after it.
+ * bad doubles at every place, counts on four axes against a count of every cell
+ * and with bad numbers at every place, and what the header defines: the structs'
+ * fields and the lengths. Lent memory stands between guards, and what a call only
+ * reads is compared after it.
  * Prints what went wrong, and at the end 'N passed, M failed'; ends with 1
  * where something failed.
  */
@@ -1587,6 +1588,392 @@ static void volumes_of_archives(void)
                     (double)many[TA_TOTAL]));
 }
 
+/* ---- counts on four axes */
+
+enum { MOST_COORDS = 4 * TA_MAX_POINTS, COORDS = MOST_COORDS + 8 };
+enum { COUNTS = TA_COUNT4_WORDS(TA_MAX_POINTS) + BEHIND };
+
+static uint64_t coords_memory[GUARD + COORDS + GUARD];
+static uint64_t *const coords = coords_memory + GUARD;
+static uint64_t counts_memory[GUARD + COUNTS + GUARD];
+static uint64_t *const counts = counts_memory + GUARD;
+
+/* All coordinates, guards included, are this one. */
+static void fill_coords(uint64_t coordinate)
+{
+    size_t i;
+
+    for (i = 0; i < LENGTH(coords_memory); i++) {
+        coords_memory[i] = coordinate;
+    }
+}
+
+/* Counts the first words as points, which are only read, into the first words of
+   an output that holds marks. Only the total and the contributions, or nothing,
+   are written. */
+static uint64_t count4(const uint64_t *r, size_t len, size_t out_len)
+{
+    static uint64_t copy[LENGTH(coords_memory)];
+    size_t written = 0;
+    uint64_t refusal;
+
+    fill(counts_memory, LENGTH(counts_memory));
+    memcpy(copy, coords_memory, sizeof copy);
+    refusal = ta_count4(r[0], r[1], r[2], r[3], coords, len, counts, out_len);
+    CHECK(memcmp(copy, coords_memory, sizeof copy) == 0);
+    if (refusal == TA_DONE) {
+        written = TA_COUNT4_WORDS(len / 4);
+    }
+    CHECK(is_filled(counts_memory, GUARD));
+    CHECK(is_filled(counts + written, LENGTH(counts_memory) - GUARD - written));
+    return refusal;
+}
+
+/* The same, by four numbers, with an output of all words. */
+static uint64_t count4_under(uint64_t rx, uint64_t ry, uint64_t rz, uint64_t rw, size_t len)
+{
+    const uint64_t r[4] = {rx, ry, rz, rw};
+
+    return count4(r, len, COUNTS);
+}
+
+/* The card's points with 0 for w, and one more. */
+static void lend_card_coords(uint64_t x, uint64_t y, uint64_t z, uint64_t w)
+{
+    static const uint64_t card_coords[] = {1, 2, 2, 0, 2, 1, 2, 0, 2, 2, 1, 0, 1, 1, 3, 0};
+
+    fill_coords(7);
+    memcpy(coords, card_coords, sizeof card_coords);
+    coords[16] = x;
+    coords[17] = y;
+    coords[18] = z;
+    coords[19] = w;
+}
+
+/* The first figures are these. */
+static int are_counts(uint64_t total, uint64_t first, uint64_t second, uint64_t third,
+                      uint64_t fourth)
+{
+    return counts[0] == total && counts[1] == first && counts[2] == second
+        && counts[3] == third && counts[4] == fourth;
+}
+
+static void counts_on_four_axes(void)
+{
+    const uint64_t most = TA_MAX_REFERENCE4;
+    const uint64_t largest = (uint64_t)1 << 60;
+    size_t i;
+
+    lend_card_coords(1, 2, 2, 0);
+    CHECK(count4_under(4, 4, 4, 1, 16) == TA_DONE);
+    CHECK(are_counts(21, 2, 2, 4, 1));
+    CHECK(count4_under(4, 4, 4, 1, 12) == TA_DONE);
+    CHECK(are_counts(20, 4, 4, 4, MARK));
+    /* the first once more */
+    CHECK(count4_under(4, 4, 4, 1, 20) == TA_DONE);
+    CHECK(are_counts(21, 0, 2, 4, 1));
+    CHECK(counts[5] == 0);
+    /* no points */
+    CHECK(count4_under(4, 4, 4, 1, 0) == TA_DONE);
+    CHECK(are_counts(0, MARK, MARK, MARK, MARK));
+    /* three of them raised on w: the fourth alone in two slices */
+    coords[3] = coords[7] = coords[11] = 2;
+    CHECK(count4_under(4, 4, 4, 5, 16) == TA_DONE);
+    CHECK(are_counts(81, 6, 6, 12, 21));
+    /* x, y, z and w */
+    CHECK(count4_under(3, 5, 7, 11, 4) == TA_DONE);
+    CHECK(are_counts(270, 270, MARK, MARK, MARK));
+    /* at the reference or beyond it on one axis: nothing, and nothing taken */
+    for (i = 0; i < 12; i++) {
+        lend_card_coords(0, 0, 0, 0);
+        coords[16 + i / 3] = i % 3 == 0 ? 4 : i % 3 == 1 ? 5 : most;
+        CHECK(count4_under(4, 4, 4, 4, 20) == TA_DONE);
+        CHECK(are_counts(84, 8, 8, 16, 4));
+        CHECK(counts[5] == 0);
+    }
+    /* the largest box */
+    lend_card_coords(0, 0, 0, 0);
+    CHECK(count4_under(most, most, most, most, 20) == TA_DONE);
+    CHECK(are_counts(largest, 0, 0, 0, 0));
+    fill_coords(0);
+    CHECK(count4_under(most, most, most, most, 4) == TA_DONE);
+    CHECK(are_counts(largest, largest, MARK, MARK, MARK));
+    CHECK(count4_under(most, most, most, most, MOST_COORDS) == TA_DONE);
+    CHECK(are_counts(largest, 0, 0, 0, 0));
+    coords[3] = coords[4] = coords[9] = coords[14] = 1;
+    CHECK(count4_under(most, most, most, most, 16) == TA_DONE);
+    CHECK(are_counts(largest - 1, most - 1, most - 1, most - 1, most - 1));
+    fill_coords(most - 1);
+    CHECK(count4_under(most, most, most, most, 4) == TA_DONE);
+    CHECK(are_counts(1, 1, MARK, MARK, MARK));
+    coords[4] = coords[5] = coords[6] = coords[7] = 0;
+    CHECK(count4_under(most, most, most, most, 8) == TA_DONE);
+    CHECK(are_counts(largest, 0, largest - 1, MARK, MARK));
+    fill_coords(most);
+    CHECK(count4_under(most, most, most, most, 4) == TA_DONE);
+    CHECK(are_counts(0, 0, MARK, MARK, MARK));
+}
+
+/* Lengths, and outputs of exactly points + 1 words, one less and more. */
+static void lengths_of_count4(void)
+{
+    static const uint64_t r[4] = {4, 4, 4, 4};
+    size_t len;
+
+    for (len = 0; len <= COORDS; len += len < 12 || len >= MOST_COORDS - 8 ? 1 : 300) {
+        const size_t words_needed = TA_COUNT4_WORDS(len / 4);
+        uint64_t row = len % 4 != 0 ? TA_BAD_LENGTH
+            : len > MOST_COORDS ? TA_TOO_MANY_POINTS : TA_DONE;
+
+        fill_coords(1);
+        CHECK(count4(r, len, words_needed) == row);
+        CHECK(row != TA_DONE || counts[0] == (len == 0 ? 0 : 81));
+        CHECK(count4(r, len, words_needed + 1) == row);
+        row = row == TA_DONE ? TA_OUTPUT_SHORT : row;
+        CHECK(count4(r, len, words_needed - 1) == row);
+        CHECK(count4(r, len, 0) == row);
+    }
+}
+
+/* Every choice of rows that can meet at once: the first of 4, 17, 20, 6 and 16
+   answers. */
+static void rows_of_count4(void)
+{
+    static const uint64_t rows[5] = {
+        TA_BAD_START, TA_BAD_LENGTH, TA_TOO_MANY_POINTS, TA_BAD_COORDINATE, TA_OUTPUT_SHORT
+    };
+    static const uint64_t high[] = {
+        TA_MAX_REFERENCE4 + 1, ((uint64_t)1 << 32) + 1, (uint64_t)-1, (uint64_t)1 << 63
+    };
+    size_t axis;
+    size_t i;
+    unsigned met;
+
+    for (axis = 0; axis < 4; axis++) {
+        for (i = 0; i < LENGTH(high); i++) {
+            for (met = 1; met < 32; met++) {
+                size_t number = met & 4 ? TA_MAX_POINTS + 1 : axis + 1;
+                size_t len = 4 * number + (met & 2 ? 1 + i % 3 : 0);
+                uint64_t r[4] = {4, 4, 4, 4};
+                size_t first = 0;
+
+                while (!(met >> first & 1)) {
+                    first++;
+                }
+                if (met & 1) {
+                    r[axis] = met % 3 == 0 ? 0 : high[i];
+                }
+                fill_coords(1);
+                if (met & 8) {
+                    coords[i % 2 == 0 ? axis : len - 1 - axis % 4] = high[i];
+                }
+                CHECK(count4(r, len, TA_COUNT4_WORDS(number) - (met >> 4)) == rows[first]);
+            }
+        }
+    }
+}
+
+/* Both sides of the limits, on each axis, and in every place of 512 points. */
+static void limits_of_count4(void)
+{
+    static const uint64_t high[] = {
+        TA_MAX_COORDINATE4 + 1, 65536, TA_MAX_COORDINATE, (uint64_t)1 << 32,
+        ((uint64_t)1 << 32) + 1, ((uint64_t)1 << 63) + 1, UINT32_MAX, UINT64_MAX
+    };
+    const uint64_t most = TA_MAX_REFERENCE4;
+    const uint64_t r[4] = {most, most, most, most};
+    int negative = -1;
+    int wrong = 0;
+    size_t axis;
+    size_t i;
+
+    for (axis = 0; axis < 4; axis++) {
+        uint64_t own[4] = {1, 1, 1, 1};
+
+        fill_coords(0);
+        CHECK(count4(own, 4, COUNTS) == TA_DONE);
+        CHECK(are_counts(1, 1, MARK, MARK, MARK));
+        coords[axis] = TA_MAX_COORDINATE4;
+        CHECK(count4(own, 4, COUNTS) == TA_DONE);
+        CHECK(are_counts(0, 0, MARK, MARK, MARK));
+        own[axis] = most;
+        CHECK(count4(own, 8, COUNTS) == TA_DONE);
+        CHECK(are_counts(most, 0, most, MARK, MARK));
+        own[axis] = 0;
+        CHECK(count4(own, 8, COUNTS) == TA_BAD_START);
+        CHECK(count4(own, 0, COUNTS) == TA_BAD_START);
+        for (i = 0; i < LENGTH(high); i++) {
+            own[axis] = high[i];
+            CHECK(count4(own, 8, COUNTS) == TA_BAD_START);
+            CHECK(count4(own, 0, COUNTS) == TA_BAD_START);
+            coords[axis] = high[i];
+            CHECK(count4(r, 8, COUNTS) == TA_BAD_COORDINATE);
+            CHECK(count4(r, 4, 1) == TA_BAD_COORDINATE);
+        }
+    }
+    fill_coords(most);
+    fill(counts_memory, LENGTH(counts_memory));
+    for (i = 0; i < MOST_COORDS; i++) {
+        coords[i] = most + 1;
+        wrong += ta_count4(most, most, most, most, coords, MOST_COORDS, counts, COUNTS)
+            != TA_BAD_COORDINATE;
+        wrong += coords[i] != most + 1;
+        coords[i] = most;
+    }
+    CHECK(wrong == 0);
+    CHECK(is_filled(counts_memory, LENGTH(counts_memory)));
+    CHECK(ta_count4(4, 4, 4, negative, coords, 4, counts, COUNTS) == TA_BAD_START);
+    CHECK(is_filled(counts_memory, LENGTH(counts_memory)));
+    CHECK(ta_count4(4, 4, 4, 2.9, coords, 4, counts, COUNTS) == TA_DONE);
+}
+
+/* Whether the figures are those of every cell counted: how many points dominate
+   it, and which one where it is alone. */
+static int are_cells(const uint64_t *r, size_t count)
+{
+    const uint64_t cells = r[0] * r[1] * r[2] * r[3];
+    uint64_t total = 0;
+    uint64_t alone[16] = {0};
+    uint64_t cell;
+    size_t i;
+
+    for (cell = 0; cell < cells; cell++) {
+        uint64_t x = cell % r[0];
+        uint64_t y = cell / r[0] % r[1];
+        uint64_t z = cell / r[0] / r[1] % r[2];
+        uint64_t w = cell / r[0] / r[1] / r[2];
+        size_t dominators = 0;
+        size_t one = 0;
+
+        for (i = 0; i < count; i++) {
+            const uint64_t *p = coords + 4 * i;
+
+            if (p[0] <= x && p[1] <= y && p[2] <= z && p[3] <= w) {
+                dominators++;
+                one = i;
+            }
+        }
+        total += dominators > 0;
+        alone[one] += dominators == 1;
+    }
+    return counts[0] == total && memcmp(counts + 1, alone, count * sizeof *alone) == 0;
+}
+
+/* Small sets, many points equal, dominated or beyond the reference. */
+static void random_counts(void)
+{
+    int wrong = 0;
+    int differ = 0;
+    int i;
+
+    for (i = 0; i < 4000; i++) {
+        size_t count = next_random() % 13;
+        uint64_t further = next_random() % 3;
+        uint64_t r[4];
+        size_t k;
+
+        for (k = 0; k < 4; k++) {
+            r[k] = 1 + next_random() % 6;
+        }
+        fill_coords(7);
+        for (k = 0; k < 4 * count; k++) {
+            coords[k] = next_random() % (r[k % 4] + further);
+        }
+        if (count > 1 && next_random() % 3 == 0) {
+            memcpy(coords, coords + 4 * (count - 1), 4 * sizeof *coords);
+        }
+        fill(counts_memory, LENGTH(counts_memory));
+        wrong += ta_count4(r[0], r[1], r[2], r[3], coords, 4 * count, counts, COUNTS) != TA_DONE;
+        wrong += !are_cells(r, count);
+        wrong += !is_filled(counts_memory, GUARD);
+        wrong += !is_filled(counts + count + 1, LENGTH(counts_memory) - GUARD - count - 1);
+        for (k = 1; k < count; k++) {
+            differ += counts[k] > 0 && counts[k + 1] > 0 && counts[k] != counts[k + 1];
+        }
+    }
+    CHECK(wrong == 0);
+    CHECK(differ > 500);
+}
+
+/* The cells that point i of the line below leaves on the three axes on which it
+   rises; none behind the last point. */
+static uint64_t cube(uint64_t i)
+{
+    uint64_t edge = TA_MAX_REFERENCE4 - 63 * i;
+
+    return i < TA_MAX_POINTS ? edge * edge * edge : 0;
+}
+
+/* 512 points on a line that rises on three axes and falls on the fourth: each is
+   the lowest in a slice of its own. */
+static void line_of_512(void)
+{
+    const uint64_t most = TA_MAX_REFERENCE4;
+    size_t axis;
+    uint64_t i;
+
+    for (axis = 0; axis < 4; axis++) {
+        uint64_t total = 0;
+        int wrong = 0;
+
+        fill_coords(7);
+        for (i = 0; i < TA_MAX_POINTS; i++) {
+            uint64_t *at = coords + 4 * i;
+
+            at[0] = at[1] = at[2] = at[3] = 63 * i;
+            at[axis] = 63 * (TA_MAX_POINTS - 1 - i);
+        }
+        CHECK(count4_under(most, most, most, most, MOST_COORDS) == TA_DONE);
+        for (i = 0; i < TA_MAX_POINTS; i++) {
+            uint64_t height = i == 0 ? most - 63 * (TA_MAX_POINTS - 1) : 63;
+
+            total += cube(i) * height;
+            wrong += counts[1 + i] != (cube(i) - cube(i + 1)) * height;
+        }
+        CHECK(wrong == 0);
+        CHECK(counts[0] == total);
+    }
+}
+
+/* 512 points of an archive, with a fourth axis that is flat, or 3 long. */
+static void counts_of_archives(void)
+{
+    static const uint64_t reference[3] = {TA_MAX_REFERENCE4, 20000, 30000};
+    static uint64_t many[TA_WORDS(TA_MAX_CAPACITY)];
+    uint64_t height;
+    size_t i;
+
+    draw_points(reference, TA_MAX_POINTS);
+    CHECK(ta_start(many, LENGTH(many), reference[0], reference[1], reference[2],
+                   TA_MAX_CAPACITY) == TA_DONE);
+    fill_coords(0);
+    for (i = 0; i < TA_MAX_POINTS; i++) {
+        uint64_t *at = coords + 4 * i;
+        size_t axis;
+
+        for (axis = 0; axis < 3; axis++) {
+            at[axis] = points[i][axis] < TA_MAX_COORDINATE4 ? points[i][axis] : TA_MAX_COORDINATE4;
+        }
+        if (ta_insert(many, LENGTH(many), i + 1, at[0], at[1], at[2]) != TA_DONE) {
+            CHECK(0);
+        }
+    }
+    for (height = 1; height <= 3; height += 2) {
+        int wrong = 0;
+
+        CHECK(count4_under(reference[0], reference[1], reference[2], height, MOST_COORDS)
+              == TA_DONE);
+        CHECK(counts[0] == many[TA_TOTAL] * height);
+        for (i = 0; i < TA_MAX_POINTS; i++) {
+            const uint64_t *record = many + TA_RECORDS + i * TA_RECORD_WORDS;
+
+            wrong += counts[record[0]] != record[4] * height;
+        }
+        CHECK(wrong == 0);
+    }
+    CHECK(many[TA_TOTAL] > 0);
+}
+
 /* ---- what the header defines */
 
 /* Stops the compiler where the condition does not hold. */
@@ -1624,6 +2011,7 @@ HOLDS(words_of_the_largest, TA_WORDS(TA_MAX_CAPACITY) == 2568);
 HOLDS(log_of_the_largest, TA_LOG_WORDS(TA_MAX_CAPACITY, 0) == 1024);
 HOLDS(card_of_the_largest, TA_CARD_BYTES(TA_MAX_CAPACITY) == 16929);
 HOLDS(report_of_the_largest, TA_REPORT_BYTES(TA_MAX_CAPACITY) == 27189);
+HOLDS(counts_of_the_most, TA_COUNT4_WORDS(TA_MAX_POINTS) == 513);
 
 /* Each field holds what its name says: values that differ within a struct. */
 static void fields(void)
@@ -1734,6 +2122,13 @@ int main(void)
     minus_zeros();
     random_volumes();
     volumes_of_archives();
+    counts_on_four_axes();
+    lengths_of_count4();
+    rows_of_count4();
+    limits_of_count4();
+    random_counts();
+    line_of_512();
+    counts_of_archives();
     fields();
     log_lengths();
     printf("%d passed, %d failed\n", passed, failed);

@@ -20,6 +20,8 @@ static uint64_t log_words[2 * TA_MAX_CAPACITY];
 static uint8_t out[TA_REPORT_BYTES(TA_MAX_CAPACITY)];
 static uint8_t card[TA_CARD_BYTES(TA_MAX_CAPACITY)];
 static double points[3 * TA_MAX_POINTS];
+static uint64_t coords[4 * TA_MAX_POINTS];
+static uint64_t counts[TA_COUNT4_WORDS(TA_MAX_POINTS)];
 
 static const uint64_t grid[] = {TA_MAX_NUMBER, 1, 2, 3};
 static const ta_corner corner = {2000, 2000, 2000};
@@ -43,9 +45,10 @@ static void card_load(void) { answer = ta_card_load(words, len, card, sizeof car
 static void card_write(void) { answer = ta_card_write(words, len, out, sizeof out).refusal; }
 static void report(void) { answer = ta_report(words, len, out, sizeof out).refusal; }
 static void volume(void) { answer = ta_volume(corner, points, 3 * TA_MAX_POINTS).refusal; }
+static void count4(void) { answer = ta_count4(2000, 2000, 2000, 2000, coords, 4 * TA_MAX_POINTS, counts, TA_COUNT4_WORDS(TA_MAX_POINTS)); }
 
-/* A card of 512 trials near one plane, so that a reduction has work to do, and
-   the same points in doubles. */
+/* A card of 512 trials near one plane, so that a reduction has work to do, the
+   same points in doubles, and points near a plane of four axes. */
 static void fill_card(void)
 {
     char line[LINE + 1];
@@ -56,12 +59,18 @@ static void fill_card(void)
     for (i = 1; i <= TA_MAX_CAPACITY; i++) {
         int x = i * 331 % 1000;
         int y = i * 577 % 1000;
+        int z = i * 733 % 1000;
+        uint64_t *at = coords + 4 * (i - 1);
 
         snprintf(line, sizeof line, "%8d%8d%8d%8d\n", i, x, y, 2000 - x - y);
         memcpy(card + LINE * i, line, LINE);
         points[3 * i - 3] = x;
         points[3 * i - 2] = y;
         points[3 * i - 1] = 2000 - x - y;
+        at[0] = (uint64_t)x;
+        at[1] = (uint64_t)y;
+        at[2] = (uint64_t)z;
+        at[3] = (uint64_t)((3000 - x - y - z) / 2);
     }
 }
 
@@ -109,7 +118,7 @@ int main(void)
         {"ta_replace_effect", replace_effect}, {"ta_share", share}, {"ta_audit", audit},
         {"ta_card_write", card_write}, {"ta_report", report}, {"ta_remove", remove_trial},
         {"ta_insert_grid", insert_grid}, {"ta_remove", remove_trial}, {"ta_insert", insert},
-        {"ta_reduce", reduce}, {"ta_volume", volume},
+        {"ta_reduce", reduce}, {"ta_volume", volume}, {"ta_count4", count4},
     };
     size_t base;
     size_t i;

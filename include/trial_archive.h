@@ -19,6 +19,7 @@
  *   A trial is on the front where no other trial is at most equal on all axes
  *   and smaller on at least one, by the coordinates as held, beyond the
  *   reference too. Equal trials can both be on it.
+ *   ta_count4 alone counts on four axes, and has limits of its own.
  *
  * THE ARCHIVE'S WORDS
  *   An archive is a lent slice of 64-bit words, passed as pointer and length
@@ -54,8 +55,9 @@
  *   uint64_t, and a call judges all 64 bits. C converts an argument of another
  *   type before the call, and the number that arrives is the one judged:
  *     - A negative integer arrives as 2^64 less its size and is refused like
- *       any other that is too large: by row 4 at ta_start, 5 as a new trial's
- *       number, 6 as a coordinate, 9 as the number of a trial held, 11 as k.
+ *       any other that is too large: by row 4 at ta_start and in the reference
+ *       of ta_count4, 5 as a new trial's number, 6 as a coordinate, 9 as the
+ *       number of a trial held, 11 as k.
  *     - A double loses its fraction: 2.9 arrives as 2, and -0.9 as 0. One that
  *       is -1 or less, 2^64 or more, or not a number is undefined behaviour in
  *       C, before the call; the library cannot see it.
@@ -78,7 +80,7 @@
  * THREADS, MEMORY AND STACK
  *   The library has no global state, allocates nothing, and does no input or
  *   output. Calls that share no lent memory may run at the same time, and so
- *   may calls that only read the same archive or the same doubles.
+ *   may calls that only read what they share.
  *   A call needs a few tens of KiB of stack, at most TA_STACK_BYTES; see docs.
  *
  * EXAMPLE
@@ -149,9 +151,13 @@ extern "C" {
 #define TA_MAX_COORDINATE 1048576
 #define TA_MAX_NUMBER 9999999
 
-/* How many points ta_volume takes. Its reference and coordinates have an
-   archive's limits. */
+/* How many points ta_volume and ta_count4 take. Reference and coordinates of
+   ta_volume have an archive's limits. */
 #define TA_MAX_POINTS 512
+
+/* Limits of ta_count4. */
+#define TA_MAX_REFERENCE4 32768
+#define TA_MAX_COORDINATE4 32768
 
 /* The stack that any one call stays below, in bytes. bench/stack.c measures it. */
 #define TA_STACK_BYTES 49152
@@ -159,16 +165,18 @@ extern "C" {
 /*
  * Lengths: words of an archive with a capacity up to TA_MAX_CAPACITY, words of
  * the log of a reduction from count trials to k, bytes of a card with so many
- * trials, bytes of a report on so many. A k above the count needs no log, since
- * ta_reduce refuses it; nor does a negative k. TA_LOG_WORDS does not wrap: it
- * is 0 for these, and (size_t)-1 where a size_t cannot hold the length. It may
- * evaluate its arguments more than once.
+ * trials, bytes of a report on so many, words that ta_count4 writes for so many
+ * points. A k above the count needs no log, since ta_reduce refuses it; nor
+ * does a negative k. TA_LOG_WORDS does not wrap: it is 0 for these, and
+ * (size_t)-1 where a size_t cannot hold the length. It may evaluate its
+ * arguments more than once.
  */
 #define TA_WORDS(capacity) (8 + 5 * (size_t)(capacity))
 #define TA_LOG_WORDS(count, k) \
     TA_LOG_WORDS_OF((uint64_t)(count), (uint64_t)(count) - (uint64_t)(k))
 #define TA_CARD_BYTES(count) (33 * ((size_t)(count) + 1))
 #define TA_REPORT_BYTES(count) (53 * ((size_t)(count) + 1))
+#define TA_COUNT4_WORDS(points) ((size_t)(points) + 1)
 
 /* TA_LOG_WORDS by the drops, which are more than the count where k is: the
    difference has wrapped. */
@@ -188,8 +196,9 @@ extern "C" {
 /*
  * The refusals. Rows are checked in this order, save that ta_start checks 4
  * before 1, ta_replace_effect 9 before 6, ta_volume 20 before 19, 17 comes
- * first, and 18 right after 3. ta_start and ta_card_load check neither 2 nor 3;
- * for them row 1 is a slice shorter than 8 + 5 * the capacity given.
+ * first, 18 right after 3, and that ta_count4 checks 4, 17, 20, 6, 16.
+ * ta_start and ta_card_load check neither 2 nor 3; for them row 1 is a slice
+ * shorter than 8 + 5 * the capacity given.
  */
 enum {
     /* Not a refusal: the call is done. */
@@ -203,11 +212,13 @@ enum {
     /* Records: number or coordinate out of range, contribution above the box,
        order broken, a number twice, an unused word not zero. */
     TA_BAD_RECORDS = 3,
-    /* Start, card line 1: reference or capacity out of range. */
+    /* Start, card line 1: reference or capacity out of range. Count4: reference
+       out of range. */
     TA_BAD_START = 4,
     /* Insert: trial number out of range. */
     TA_BAD_NUMBER = 5,
-    /* Insert, gain, replace-effect: a coordinate above 1,048,576. */
+    /* Insert, gain, replace-effect: a coordinate above 1,048,576. Count4: a
+       coordinate above 32,768. */
     TA_BAD_COORDINATE = 6,
     /* Insert: number already held. */
     TA_NUMBER_HELD = 7,
@@ -229,10 +240,12 @@ enum {
     /* Card: a line not of the form; an empty card is line 1. */
     TA_CARD_FORM = 15,
     /* Report: output shorter than 53 * (count + 1) bytes. Card-write: output
-       shorter than 33 * (count + 1) bytes. */
+       shorter than 33 * (count + 1) bytes. Count4: output shorter than
+       points + 1 words. */
     TA_OUTPUT_SHORT = 16,
     /* Insert-grid: slice length not a multiple of four. Volume: slice length
-       not a multiple of three. Checked first. */
+       not a multiple of three. Checked first. Count4: slice length not a
+       multiple of four; checked after 4. */
     TA_BAD_LENGTH = 17,
     /* Least, reduce: a tie rule that is neither 0 nor 1. Checked after row 3
        and before 11, 12, 13 and 14. */
@@ -240,7 +253,8 @@ enum {
     /* Volume: a double that is not a whole number, in the reference from 1 to
        1,048,576, in a point from 0 to 1,048,576; minus zero is zero. */
     TA_BAD_DOUBLE = 19,
-    /* Volume: more than 512 points. Checked before 19. */
+    /* Volume, count4: more than 512 points. Checked before 19, and by count4
+       before 6. */
     TA_TOO_MANY_POINTS = 20
 };
 
@@ -476,6 +490,34 @@ ta_answer ta_report(const uint64_t *words, size_t len,
  */
 ta_volume_answer ta_volume(ta_corner reference,
                            const double *points, size_t len);
+
+/*
+ * Counts the cells of some points on four axes. No archive takes part. There
+ * are four words to a point, x, y, z, w, and at most TA_MAX_POINTS points; len
+ * and out_len are in words. Reference numbers are 1 to 32,768, coordinates 0 to
+ * 32,768 whatever the reference.
+ *
+ * The box has rx * ry * rz * rw cells (i, j, k, l) with i < rx, j < ry, k < rz
+ * and l < rw, at most 2^60. A point dominates the cell where x <= i, y <= j,
+ * z <= k and w <= l. So a point at the reference or beyond it on any axis
+ * dominates no cell.
+ *
+ * The output receives TA_COUNT4_WORDS(points) = points + 1 words: the total,
+ * which is the number of cells that at least one point dominates, then each
+ * point's contribution, in the order of the points: the cells that it dominates
+ * and no other point does. Equal points are several points: each of them
+ * contributes 0. No points give the total 0 alone. Where rw is 1 and every w is
+ * 0, the figures are those of an archive that holds the points x, y, z.
+ *
+ * coords is only read, and must not share memory with out. out may be longer
+ * than points + 1 words: those behind stay unchanged, and on a refusal all of
+ * them. Where a length is 0, the pointer is the address of any word; an output
+ * of length 0 is refused whatever the points.
+ * Refusals, in this order: 4, 17, 20, 6, 16.
+ */
+uint64_t ta_count4(uint64_t rx, uint64_t ry, uint64_t rz, uint64_t rw,
+                   const uint64_t *coords, size_t len,
+                   uint64_t *out, size_t out_len);
 
 #ifdef __cplusplus
 }

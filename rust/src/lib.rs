@@ -32,7 +32,8 @@
 //!
 //! [`Archive`] owns its memory. The functions of [`words`] work on memory that the caller lends,
 //! and [`sys`] is the bare C interface. [`volume()`] is the figure in double precision, to stand
-//! beside those of codes that compute in doubles; it needs no archive.
+//! beside those of codes that compute in doubles, and [`count4()`] has the figures of points with a
+//! fourth score; neither needs an archive.
 //!
 //! # Building and testing
 //!
@@ -58,6 +59,7 @@
 //! where they stood in that order.
 
 mod archive;
+mod four;
 mod refusal;
 mod rule;
 pub mod sys;
@@ -65,6 +67,7 @@ mod volume;
 pub mod words;
 
 pub use archive::{Archive, Contribution, Filled, Trial};
+pub use four::{count4, Counts4};
 pub use refusal::{CardRefusal, Refusal};
 pub use rule::TieRule;
 pub use volume::volume;

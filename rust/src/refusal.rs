@@ -16,11 +16,11 @@ pub enum Refusal {
     /// Records: number or coordinate out of range, contribution above the box, order broken, a
     /// number twice, an unused word not zero.
     BadRecords = 3,
-    /// Start, card line 1: reference or capacity out of range.
+    /// Start, card line 1: reference or capacity out of range. Count4: reference out of range.
     BadStart = 4,
     /// Insert: trial number out of range.
     BadNumber = 5,
-    /// Insert, gain, replace-effect: a coordinate above 1,048,576.
+    /// Insert, gain, replace-effect: a coordinate above 1,048,576. Count4: a coordinate above 32,768.
     BadCoordinate = 6,
     /// Insert: number already held.
     NumberHeld = 7,
@@ -42,17 +42,17 @@ pub enum Refusal {
     /// Card: a line not of the form; an empty card is line 1.
     CardForm = 15,
     /// Report: output shorter than 53 × (count + 1) bytes. Card-write: output shorter than
-    /// 33 × (count + 1) bytes.
+    /// 33 × (count + 1) bytes. Count4: output shorter than points + 1 words.
     OutputShort = 16,
     /// Insert-grid: slice length not a multiple of four. Only the bare C interface can be given one.
-    /// Volume: slice length not a multiple of three.
+    /// Volume: slice length not a multiple of three. Count4: not a multiple of four.
     BadLength = 17,
     /// Least, reduce: a tie rule that is neither 0 nor 1. Only the bare C interface can be given one.
     BadRule = 18,
     /// Volume: a double that is not a whole number, in the reference from 1 to 1,048,576, in a point
     /// from 0 to 1,048,576; minus zero is zero.
     BadDouble = 19,
-    /// Volume: more than 512 points.
+    /// Volume, count4: more than 512 points.
     TooManyPoints = 20,
 }
 
@@ -108,7 +108,7 @@ impl fmt::Display for Refusal {
             Refusal::BadRecords => "archive records not valid",
             Refusal::BadStart => "reference or capacity out of range",
             Refusal::BadNumber => "trial number out of range",
-            Refusal::BadCoordinate => "a coordinate above 1,048,576",
+            Refusal::BadCoordinate => "a coordinate above 1,048,576, or above 32,768 on four axes",
             Refusal::NumberHeld => "trial number already held",
             Refusal::Full => "archive full",
             Refusal::NotHeld => "trial number not held",

@@ -120,4 +120,15 @@ extern "C" {
     pub fn ta_report(words: *const u64, len: usize, out: *mut u8, out_len: usize) -> Answer;
 
     pub fn ta_volume(reference: Corner, points: *const f64, len: usize) -> VolumeAnswer;
+
+    pub fn ta_count4(
+        rx: u64,
+        ry: u64,
+        rz: u64,
+        rw: u64,
+        coords: *const u64,
+        len: usize,
+        out: *mut u64,
+        out_len: usize,
+    ) -> u64;
 }

@@ -2,7 +2,7 @@
 //!
 //! The slice may hold anything and may be longer than the archive; words from
 //! 8 + 5 × capacity on are neither read nor written. The crate's documentation has the layout.
-//! [`volume`] takes doubles and no archive.
+//! [`volume`] takes doubles and no archive, [`count4`] points of four words and none either.
 
 use crate::refusal::{CardRefusal, Refusal};
 use crate::sys;
@@ -26,6 +26,11 @@ pub const fn card_needed(count: usize) -> usize {
 /// The bytes that the report on `count` trials takes: 53 × (count + 1).
 pub const fn report_needed(count: usize) -> usize {
     53 * (count + 1)
+}
+
+/// The words that the figures of `points` points on four axes take: points + 1.
+pub const fn count4_needed(points: usize) -> usize {
+    points + 1
 }
 
 /// Writes an empty archive; what the words held before does not matter.
@@ -149,6 +154,21 @@ pub fn volume(reference: [f64; 3], points: &[f64]) -> Result<f64, Refusal> {
     let answer = unsafe { sys::ta_volume(reference, points.as_ptr(), points.len()) };
     Refusal::check(answer.refusal)?;
     Ok(answer.volume)
+}
+
+/// The figures of points on four axes, as [`crate::count4()`] gives them, from a slice with four words
+/// to a point into another: the total, then each point's contribution, in the order of the points.
+/// Words behind these points + 1 are not written, and none is where the call is turned down. A length
+/// of `coords` that is not a multiple of four is [`Refusal::BadLength`], fewer than points + 1 words of
+/// `out` are [`Refusal::OutputShort`].
+pub fn count4(reference: [u64; 4], coords: &[u64], out: &mut [u64]) -> Result<(), Refusal> {
+    let [rx, ry, rz, rw] = reference;
+    // SAFETY: pointers and lengths are those of two slices borrowed for the call, the second
+    // mutably, which therefore share no memory.
+    Refusal::check(unsafe {
+        let (coords, len) = (coords.as_ptr(), coords.len());
+        sys::ta_count4(rx, ry, rz, rw, coords, len, out.as_mut_ptr(), out.len())
+    })
 }
 
 fn value(answer: sys::Answer) -> Result<u64, Refusal> {

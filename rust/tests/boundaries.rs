@@ -262,7 +262,7 @@ fn row_3_unused_words() {
 
 /// Numbers of 32 bits and more: those that a cut to 32 bits would make 0, 1 or this one, and those
 /// that negative numbers of C become.
-fn wide(narrow: u64) -> impl Iterator<Item = u64> {
+pub fn wide(narrow: u64) -> impl Iterator<Item = u64> {
     let cut = move |high: u64| [high, high + 1, high + narrow];
     let negative = [1, 2, 4, 1 << 31, 1 << 32, 1 << 40].map(|size: u64| size.wrapping_neg());
     let more = [1 << 31, u64::from(u32::MAX), narrow << 32 | narrow];

@@ -261,7 +261,8 @@ fn the_longest_cards() {
 fn a_refusal_with_its_line() {
     let refusal = check_card(&card(&[[1, 4, 4, 4], [1, 1_048_577, 0, 0]])).unwrap_err();
     assert_eq!((refusal.refusal.number(), refusal.line), (6, 2));
-    assert_eq!(refusal.to_string(), "card line 2: a coordinate above 1,048,576");
+    let text = "card line 2: a coordinate above 1,048,576, or above 32,768 on four axes";
+    assert_eq!(refusal.to_string(), text);
 }
 
 /// A card whose lines are mostly acceptable.

@@ -2,8 +2,9 @@
 //! fenced memory, and by the safe functions. Answers and all lent memory must agree, that which
 //! is only read included. The safe functions take coordinates of 32 bits, one of the two tie rules
 //! and grids of whole trials; a call with wider ones, another rule or another length is made two
-//! ways. Doubles are compared by their bits.
+//! ways. Doubles are compared by their bits. To a count on four axes the words are its output.
 
+use crate::reference::four::{self, Point4};
 use crate::reference::{calls, cards, volume, Point};
 use std::collections::BTreeMap;
 use trial_archive::{check_card, sys, words, CardRefusal, Refusal, TieRule};
@@ -26,6 +27,7 @@ pub enum Call {
     WriteCard { out: Vec<u8> },
     Report { out: Vec<u8> },
     Volume { reference: [f64; 3], points: Vec<f64> },
+    Count4 { reference: Point4, coords: Vec<u64> },
 }
 
 impl Call {
@@ -47,6 +49,7 @@ impl Call {
             Call::WriteCard { .. } => "write_card",
             Call::Report { .. } => "report",
             Call::Volume { .. } => "volume",
+            Call::Count4 { .. } => "count4",
         }
     }
 
@@ -62,7 +65,7 @@ impl Call {
     }
 
     /// Whether the call's point, or a trial that the words hold, has a coordinate beyond the
-    /// words' reference; of a volume, one of its points beyond its own.
+    /// words' reference; of a volume and of a count on four axes, one of its points beyond its own.
     fn meets_beyond(&self, words: &[u64]) -> bool {
         let past = |p: &[u64]| (0..3).any(|axis| p[axis] > words[2 + axis]);
         match self {
@@ -70,6 +73,9 @@ impl Call {
             Call::InsertGrid { grid } => grid.chunks_exact(4).any(|t| past(&t[1..])),
             Call::Volume { reference, points } => {
                 points.chunks_exact(3).any(|p| (0..3).any(|axis| p[axis] > reference[axis]))
+            }
+            Call::Count4 { reference, coords } => {
+                coords.chunks_exact(4).any(|p| (0..4).any(|axis| p[axis] > reference[axis]))
             }
             Call::Insert { point, .. }
             | Call::Gain { point }
@@ -86,9 +92,12 @@ impl Call {
         }
     }
 
-    /// Whether one of its coordinates has more than 32 bits.
+    /// Whether one of its coordinates, or of its reference's numbers, has more than 32 bits.
     fn is_wide(&self) -> bool {
         match self {
+            Call::Count4 { reference, coords } => {
+                reference.iter().chain(coords).any(|&c| c > u64::from(u32::MAX))
+            }
             Call::InsertGrid { grid } => {
                 grid.chunks(4).flat_map(|t| t.iter().skip(1)).any(|&c| c > u64::from(u32::MAX))
             }
@@ -100,14 +109,15 @@ impl Call {
     fn is_bare(&self) -> bool {
         match self {
             Call::InsertGrid { grid } => fours(grid).is_none(),
+            Call::Count4 { .. } => false,
             _ => self.is_wide() || self.rule() > 1,
         }
     }
 }
 
-/// The grid as trials of four words each, where its length is a multiple of four.
-fn fours(grid: &[u64]) -> Option<&[[u64; 4]]> {
-    let (fours, rest) = grid.as_chunks();
+/// The trials of a grid or the points, of four words each, where the length is a multiple of four.
+fn fours(words: &[u64]) -> Option<&[[u64; 4]]> {
+    let (fours, rest) = words.as_chunks();
     rest.is_empty().then_some(fours)
 }
 
@@ -249,11 +259,14 @@ impl Tally {
     }
 }
 
-/// What is lent beside the words: the log, the grid or the bits of points, the output and the card.
+/// What is lent beside the words: the log, the grid, the coordinates or the bits of points, the
+/// output and the card.
 fn lists(call: &Call) -> (Vec<u64>, Vec<u8>, Vec<u8>) {
     match call {
         Call::Reduce { log, .. } => (log.clone(), Vec::new(), Vec::new()),
-        Call::InsertGrid { grid } => (grid.clone(), Vec::new(), Vec::new()),
+        Call::InsertGrid { grid: list } | Call::Count4 { coords: list, .. } => {
+            (list.clone(), Vec::new(), Vec::new())
+        }
         Call::Volume { points, .. } => {
             (points.iter().map(|double| double.to_bits()).collect(), Vec::new(), Vec::new())
         }
@@ -298,6 +311,7 @@ fn by_reference(call: &Call, lent: &[u64]) -> Outcome {
         Call::Volume { reference, points } => {
             double(volume::volume(*reference, points).map(f64::to_bits))
         }
+        Call::Count4 { reference, coords } => single(four::count4(*reference, coords, &mut words)),
     };
     Outcome { answer, words, log, out, card }
 }
@@ -414,6 +428,10 @@ fn by_c(call: &Call, lent: &[u64]) -> Outcome {
                 let answer = sys::ta_volume(reference, log.ptr().cast(), log.len());
                 vec![answer.refusal, answer.volume.to_bits()]
             }
+            Call::Count4 { reference: [rx, ry, rz, rw], .. } => {
+                let (coords, coords_len, out) = (log.ptr(), log.len(), words.mut_ptr());
+                vec![sys::ta_count4(*rx, *ry, *rz, *rw, coords, coords_len, out, len)]
+            }
         }
     };
     Outcome { answer, words: words.open(), log: log.open(), out: out.open(), card: card.open() }
@@ -469,8 +487,20 @@ fn by_safe(call: &Call, lent: &[u64]) -> Outcome {
             };
             double(numbered(volume).map(f64::to_bits))
         }
+        Call::Count4 { reference, coords } => single(count4(*reference, coords, &mut memory)),
     };
     Outcome { answer, words: memory, log, out, card }
+}
+
+/// By the slices lent, and by points, where they are whole and no output is too short.
+fn count4(reference: Point4, coords: &[u64], out: &mut [u64]) -> Result<(), u64> {
+    let lent = numbered(words::count4(reference, coords, out));
+    if let (Some(points), false) = (fours(coords), lent == Err(16)) {
+        let counts = numbered(trial_archive::count4(reference, points));
+        let figures = counts.map(|counts| [vec![counts.total], counts.contributions].concat());
+        assert_eq!(figures, lent.map(|()| out[..words::count4_needed(points.len())].to_vec()));
+    }
+    lent
 }
 
 fn numbered<T>(result: Result<T, Refusal>) -> Result<T, u64> {

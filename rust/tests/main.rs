@@ -6,6 +6,7 @@ mod cards;
 mod counting;
 mod counts;
 mod examples;
+mod four;
 mod fronts;
 mod grids;
 mod histories;

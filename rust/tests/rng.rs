@@ -78,8 +78,13 @@ impl Drop for Scene {
 
 /// Runs scenes, each of which says how many calls it made, until they have made this many
 /// hundredths of the run's calls.
-pub fn scenes(percent: u64, mut scene: impl FnMut(&mut Rng) -> u64) {
-    let calls = variable("TRIAL_ARCHIVE_CALLS").unwrap_or(CALLS) * percent / 100;
+pub fn scenes(percent: u64, scene: impl FnMut(&mut Rng) -> u64) {
+    long_scenes(10_000 * percent, scene);
+}
+
+/// As `scenes`, by millionths of the run's calls: for scenes that take long.
+pub fn long_scenes(millionths: u64, mut scene: impl FnMut(&mut Rng) -> u64) {
+    let calls = variable("TRIAL_ARCHIVE_CALLS").unwrap_or(CALLS) * millionths / 1_000_000;
     let mut seed = variable("TRIAL_ARCHIVE_SEED").unwrap_or(SEED);
     let mut made = 0;
     while made < calls.max(1) {

@@ -1,6 +1,6 @@
 //! What the owning archive and the other safe functions add to the calls.
 
-use trial_archive::{volume, words, Archive, Refusal, TieRule, Trial};
+use trial_archive::{count4, volume, words, Archive, Counts4, Refusal, TieRule, Trial};
 
 #[test]
 fn start_out_of_range_allocates_nothing_for_it() {
@@ -111,6 +111,32 @@ fn volumes_both_ways() {
     assert_eq!(volume(reference, &[[0.0, 0.5, 0.0]]), Err(Refusal::BadDouble));
     // Three numbers that differ stand for x, y and z.
     assert_eq!(volume([3.0, 5.0, 7.0], &[[1.0, 2.0, 4.0]]), Ok(18.0));
+}
+
+/// As points and as slices, of which only these can have a wrong length.
+#[test]
+fn counts_on_four_axes_both_ways() {
+    let points = [[1, 2, 2, 0], [2, 1, 2, 0], [2, 2, 1, 0], [1, 1, 3, 0]];
+    let flat = points.as_flattened();
+    let reference = [4, 4, 4, 1];
+    let counts = Counts4 { total: 21, contributions: vec![2, 2, 4, 1] };
+    assert_eq!(count4(reference, &points), Ok(counts));
+    assert_eq!(words::count4_needed(points.len()), 5);
+    let mut out = [9; 7];
+    assert_eq!(words::count4(reference, flat, &mut out[..4]), Err(Refusal::OutputShort));
+    assert_eq!(words::count4(reference, &flat[..15], &mut out), Err(Refusal::BadLength));
+    assert_eq!(out, [9; 7]);
+    assert_eq!(words::count4(reference, flat, &mut out), Ok(()));
+    assert_eq!(out, [21, 2, 2, 4, 1, 9, 9]);
+    assert_eq!(count4(reference, &[]), Ok(Counts4 { total: 0, contributions: vec![] }));
+    let origins = Counts4 { total: 64, contributions: vec![0; 512] };
+    assert_eq!(count4(reference, &[[0; 4]; 512]), Ok(origins));
+    assert_eq!(count4(reference, &[[0; 4]; 513]), Err(Refusal::TooManyPoints));
+    assert_eq!(count4(reference, &[[0, 32_769, 0, 0]]), Err(Refusal::BadCoordinate));
+    assert_eq!(count4([4, 4, 4, 0], &points), Err(Refusal::BadStart));
+    // Four numbers that differ stand for x, y, z and w.
+    let counts = Counts4 { total: 2 * 3 * 3 * 5, contributions: vec![90] };
+    assert_eq!(count4([3, 5, 7, 11], &[[1, 2, 4, 6]]), Ok(counts));
 }
 
 #[test]

@@ -7,12 +7,14 @@ use calls::LeastAnswer;
 use card::Loaded;
 use volume::Corner;
 use volume::VolumeAnswer;
+ghost use mathlib.Core.List.{_∷_, []};
 ghost use mathlib.Core.Path.{_≡_};
 ghost use Rattle.calls.specs.Lent.{start, insert, remove, least, reduce, joint, gain-answer, share, audit, trial-of, shape-of, MeetsOutcome};
 ghost use Rattle.calls.specs.Grid.{insert-grid};
 ghost use Rattle.calls.specs.Replacement.{replace-effect};
 ghost use Rattle.card.specs.Card.{load};
 ghost use Rattle.card.specs.Check.{check};
+ghost use Rattle.four.specs.Count4.{count4, counted4};
 ghost use Rattle.reports.specs.Report.{report, reported};
 ghost use Rattle.volume.specs.Volume.{volume, answer-of};
 ghost use Rattle.writing.specs.Written.{write, written};
@@ -127,4 +129,18 @@ pub extern "C" fn ta_volume(reference: Corner, points: &[f64]) -> VolumeAnswer
     ensures { λ r. ⌜ r ≡ answer-of (volume reference (now (points .entry))) ⌝ }
 {
     volume::volume_answer(reference, points)
+}
+
+#[no_mangle]
+pub extern "C" fn ta_count4(
+    rx: u64,
+    ry: u64,
+    rz: u64,
+    rw: u64,
+    coords: &[u64],
+    out: &mut [u64],
+) -> u64
+    ensures { λ r. ⌜ (r ≡ count4 (rx ∷ ry ∷ rz ∷ rw ∷ []) (now (coords .entry)) (now (out .entry))) × (now (out .exit) ≡ counted4 (rx ∷ ry ∷ rz ∷ rw ∷ []) (now (coords .entry)) (now (out .entry))) ⌝ }
+{
+    four::count4(rx, ry, rz, rw, coords, out)
 }

@@ -8,6 +8,7 @@ pub mod book;
 pub mod calls;
 pub mod cards;
 pub mod cells;
+pub mod four;
 pub mod volume;
 
 /// x, y, z.
