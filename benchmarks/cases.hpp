@@ -52,10 +52,13 @@ struct Case {
     Words grid;
     ta_corner corner{};
     std::vector<double> doubles;
-    // For those that recompute: the points to count, and their contributions; for a volume their
-    // total alone.
+    Words coordinates;
+    // For those that recompute: the points to count, on three axes or on four, and their
+    // contributions; for a volume their total alone.
     Point reference{};
     std::vector<Point> points;
+    Point4 reference4{};
+    std::vector<Point4> points4;
     std::vector<Count> exact;
 };
 
@@ -173,6 +176,22 @@ inline Case volume_of(const Set &set)
     for (const Point &p : set.points)
         c.doubles.insert(c.doubles.end(), p.begin(), p.end());
     c.after.value = bits(textbook::volume(set.points, set.reference));
+    return c;
+}
+
+// Total and contributions of any points on four axes. The word behind them must stay as it is.
+inline Case four_axes_of(const Set4 &set)
+{
+    const std::uint64_t untouched = 7;
+    Case c;
+    c.reference4 = set.reference;
+    c.points4 = set.points;
+    for (const Point4 &p : set.points)
+        c.coordinates.insert(c.coordinates.end(), p.begin(), p.end());
+    c.after.words = textbook::four_axes(set.points, set.reference);
+    c.exact.assign(c.after.words.begin() + 1, c.after.words.end());
+    c.after.words.push_back(untouched);
+    c.before.words.assign(c.after.words.size(), untouched);
     return c;
 }
 

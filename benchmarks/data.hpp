@@ -10,13 +10,18 @@
 #include <string>
 #include <vector>
 
-using Point = std::array<std::uint32_t, 3>;
+template <std::size_t Axes> using PointOn = std::array<std::uint32_t, Axes>;
 
 // The reference is the scale on each axis.
-struct Set {
-    Point reference;
-    std::vector<Point> points;
+template <std::size_t Axes> struct SetOn {
+    PointOn<Axes> reference;
+    std::vector<PointOn<Axes>> points;
 };
+
+using Point = PointOn<3>;
+using Set = SetOn<3>;
+using Point4 = PointOn<4>;
+using Set4 = SetOn<4>;
 
 // splitmix64
 class Random
@@ -66,7 +71,9 @@ inline std::string name(Kind kind)
 
 // Cliff and spherical points as document 000, section V-A, has them; in uniform sets most points
 // are dominated.
-inline std::array<double, 3> draw(Kind kind, Random &random)
+template <std::size_t Axes> std::array<double, Axes> draw(Kind kind, Random &random);
+
+template <> inline std::array<double, 3> draw(Kind kind, Random &random)
 {
     double a = random.normal(), b = random.normal(), c = random.normal();
     switch (kind) {
@@ -80,36 +87,58 @@ inline std::array<double, 3> draw(Kind kind, Random &random)
     }
 }
 
-inline bool dominates(const Point &p, const Point &q)
+// A cliff has two arcs here, one on x and y, one on z and w.
+template <> inline std::array<double, 4> draw(Kind kind, Random &random)
 {
-    return p[0] <= q[0] && p[1] <= q[1] && p[2] <= q[2];
+    double a = random.normal(), b = random.normal(), c = random.normal(), d = random.normal();
+    double first = std::hypot(a, b), second = std::hypot(c, d), all = std::hypot(first, second);
+    switch (kind) {
+    case Kind::cliff:
+        return {1 - a / first, 1 - b / first, 1 - c / second, 1 - d / second};
+    case Kind::spherical:
+    case Kind::spoiled:
+        return {a / all, b / all, c / all, d / all};
+    default:
+        return {random.uniform(), random.uniform(), random.uniform(), random.uniform()};
+    }
 }
 
-inline bool stands_alone(const Point &p, const std::vector<Point> &others)
+template <std::size_t Axes> bool dominates(const PointOn<Axes> &p, const PointOn<Axes> &q)
 {
-    for (const Point &q : others)
-        if (dominates(p, q) || dominates(q, p))
+    for (std::size_t axis = 0; axis < Axes; axis++)
+        if (p[axis] > q[axis])
+            return false;
+    return true;
+}
+
+template <std::size_t Axes>
+bool stands_alone(const PointOn<Axes> &p, const std::vector<PointOn<Axes>> &others)
+{
+    for (const PointOn<Axes> &q : others)
+        if (dominates<Axes>(p, q) || dominates<Axes>(q, p))
             return false;
     return true;
 }
 
 // Coordinates in whole numbers from 0 to the scale. With `alone`, a point that dominates another or
 // is dominated is drawn again: rounding to whole numbers can make one so.
-inline Set make_set(Kind kind, std::size_t size, std::uint32_t scale, bool alone,
-                    std::uint64_t seed)
+template <std::size_t Axes = 3>
+SetOn<Axes> make_set(Kind kind, std::size_t size, std::uint32_t scale, bool alone,
+                     std::uint64_t seed)
 {
     Random random(seed * 1000003 + size * 17 + static_cast<std::uint64_t>(kind));
-    Set set{{scale, scale, scale}, {}};
+    SetOn<Axes> set;
+    set.reference.fill(scale);
     while (set.points.size() < size) {
-        Point p{};
-        std::array<double, 3> drawn = draw(kind, random);
-        for (std::size_t axis = 0; axis < 3; axis++)
+        PointOn<Axes> p{};
+        std::array<double, Axes> drawn = draw<Axes>(kind, random);
+        for (std::size_t axis = 0; axis < Axes; axis++)
             p[axis] = static_cast<std::uint32_t>(drawn[axis] * scale);
-        if (!alone || stands_alone(p, set.points))
+        if (!alone || stands_alone<Axes>(p, set.points))
             set.points.push_back(p);
     }
     if (kind == Kind::spoiled)
-        for (std::size_t axis = 0; axis < 3; axis++)
+        for (std::size_t axis = 0; axis < Axes; axis++)
             set.points.back()[axis] = std::min(set.points[0][axis] + 1, scale);
     return set;
 }

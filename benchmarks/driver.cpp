@@ -1,9 +1,11 @@
-// The benchmark: compares every answer with the exact one, times, and prints one table.
+// The benchmark: compares every answer with the exact one, times, and prints a table, and one for
+// four axes.
 //
 //   driver [--quick] [CALL]      CALL: the rows of this call alone
 //
-// Ends with 1 where the library or the Rust yardstick answers wrongly.
+// Ends with 1 where the library or its yardstick answers wrongly.
 #include "cases.hpp"
+#include "four.hpp"
 #include "peer.hpp"
 #include "timing.hpp"
 #include "yardstick.h"
@@ -16,7 +18,7 @@
 namespace
 {
 
-// The two that work on words.
+// The two that work on words. The yardstick is in Rust, on four axes in C++.
 struct Library {
     const char *name;
     decltype(&ta_insert) insert;
@@ -29,12 +31,15 @@ struct Library {
     decltype(&ta_card_write) card_write;
     decltype(&ta_report) report;
     decltype(&ta_volume) volume;
+    decltype(&ta_count4) count4;
 };
 
-const Library archive{"archive", ta_insert,    ta_insert_grid, ta_remove, ta_least, ta_reduce,
-                      ta_audit,  ta_card_load, ta_card_write,  ta_report, ta_volume};
-const Library yardstick{"rust",   rs_insert,    rs_insert_grid, rs_remove, rs_least, rs_reduce,
-                        rs_audit, rs_card_load, rs_card_write,  rs_report, rs_volume};
+const Library archive{"archive",     ta_insert, ta_insert_grid, ta_remove,
+                      ta_least,      ta_reduce, ta_audit,       ta_card_load,
+                      ta_card_write, ta_report, ta_volume,      ta_count4};
+const Library yardstick{"yardstick",   rs_insert, rs_insert_grid, rs_remove,
+                        rs_least,      rs_reduce, rs_audit,       rs_card_load,
+                        rs_card_write, rs_report, rs_volume,      four::count};
 
 // What is timed of them.
 using Task = void (*)(const Library &, State &, const Case &);
@@ -119,6 +124,13 @@ void volume(const Library &l, State &s, const Case &c)
     s.value = bits(answer.volume);
 }
 
+void count4(const Library &l, State &s, const Case &c)
+{
+    auto [x, y, z, w] = c.reference4;
+    s.refusal = l.count4(x, y, z, w, c.coordinates.data(), c.coordinates.size(), s.words.data(),
+                         s.words.size());
+}
+
 Contestant on_words(const Library &library, Task task, std::size_t batch)
 {
     struct Place {
@@ -201,21 +213,31 @@ Contestant textbook_volume()
     return by_textbook([](const Case &c) { return textbook::volume(c.points, c.reference); });
 }
 
-peer::Points doubles(const std::vector<Point> &points)
+template <std::size_t Axes> peer::Points doubles(const std::vector<PointOn<Axes>> &points)
 {
     peer::Points result;
-    for (const Point &p : points)
+    for (const PointOn<Axes> &p : points)
         result.emplace_back(p.begin(), p.end());
     return result;
 }
 
-std::vector<double> doubles(const Point &p) { return {p.begin(), p.end()}; }
+template <std::size_t Axes> std::vector<double> doubles(const PointOn<Axes> &p)
+{
+    return {p.begin(), p.end()};
+}
+
+peer::Ready ready_of(const Case &c)
+{
+    if (!c.points4.empty())
+        return peer::Ready(doubles<4>(c.points4), doubles<4>(c.reference4));
+    return peer::Ready(doubles<3>(c.points), doubles<3>(c.reference));
+}
 
 template <class Ask> Contestant by_peer(Ask ask)
 {
     auto ready = std::make_shared<std::unique_ptr<peer::Ready>>();
     auto prepare = [ready](std::size_t, const Case &c) {
-        *ready = std::make_unique<peer::Ready>(doubles(c.points), doubles(c.reference));
+        ready->reset(new peer::Ready(ready_of(c)));
     };
     auto run = [ready, ask](std::size_t) { found = ask(**ready); };
     return {1, prepare, run};
@@ -243,7 +265,8 @@ Contestant peer_reduction()
     };
     auto given = std::make_shared<Given>();
     auto prepare = [given](std::size_t, const Case &c) {
-        *given = Given{doubles(c.points), doubles(c.reference), static_cast<std::size_t>(c.keep)};
+        *given =
+            Given{doubles<3>(c.points), doubles<3>(c.reference), static_cast<std::size_t>(c.keep)};
     };
     auto run = [given](std::size_t) {
         found = static_cast<double>(
@@ -288,9 +311,10 @@ Tally peer_contributions(const std::vector<Case> &cases)
 {
     Tally tally;
     for (const Case &c : cases) {
-        double total = static_cast<double>(textbook::total(c.points, c.reference));
-        std::vector<double> all =
-            peer::Ready(doubles(c.points), doubles(c.reference)).contributions();
+        double total = static_cast<double>(c.points4.empty()
+                                               ? textbook::total(c.points, c.reference)
+                                               : c.after.words[0]);
+        std::vector<double> all = ready_of(c).contributions();
         for (std::size_t i = 0; i < all.size(); i++) {
             double error = std::fabs(all[i] - static_cast<double>(c.exact[i]));
             tally.add(right(all[i], c.exact[i]), error <= 1e-12 * total);
@@ -299,10 +323,7 @@ Tally peer_contributions(const std::vector<Case> &cases)
     return tally;
 }
 
-double peer_volume(const Case &c)
-{
-    return peer::Ready(doubles(c.points), doubles(c.reference)).total();
-}
+double peer_volume(const Case &c) { return ready_of(c).total(); }
 
 Tally peer_volumes(const std::vector<Case> &cases)
 {
@@ -322,9 +343,7 @@ Tally peer_least(const std::vector<Case> &cases)
 {
     Tally tally;
     for (const Case &c : cases)
-        tally.add(
-            least_right(c.exact, peer::Ready(doubles(c.points), doubles(c.reference)).least()),
-            false);
+        tally.add(least_right(c.exact, ready_of(c).least()), false);
     return tally;
 }
 
@@ -336,7 +355,8 @@ Tally peer_drops(const std::vector<Case> &cases)
         std::vector<std::size_t> left(c.points.size());
         std::iota(left.begin(), left.end(), std::size_t{0});
         std::vector<Point> points = c.points;
-        for (std::size_t drop : peer::reduce(doubles(points), doubles(c.reference), c.keep)) {
+        for (std::size_t drop :
+             peer::reduce(doubles<3>(points), doubles<3>(c.reference), c.keep)) {
             std::ptrdiff_t at = std::find(left.begin(), left.end(), drop) - left.begin();
             std::vector<Count> exact = textbook::alone(points, c.reference);
             tally.add(least_right(exact, static_cast<std::size_t>(at)), false);
@@ -347,11 +367,17 @@ Tally peer_drops(const std::vector<Case> &cases)
     return tally;
 }
 
-// The table.
+// The tables.
 struct Row {
     std::string call, set, trials;
-    Samples archive, rust, textbook, pagmo;
+    Samples archive, yardstick, textbook, pagmo;
     Tally tally;
+};
+
+// The peer's figures on four axes, in cells from the exact ones.
+struct Distance {
+    std::string set, points;
+    Samples contributions, totals;
 };
 
 std::string number(double value)
@@ -374,14 +400,31 @@ std::string times(const Samples &other, const Samples &archive)
                          : spread(other.median() / own, other.low() / own, other.high() / own);
 }
 
-void print(const Row &r)
+std::string spread(const Samples &samples)
+{
+    return spread(samples.median(), samples.low(), samples.high());
+}
+
+// How many times as long the archive takes.
+std::string cost(const Row &r)
 {
     double own = r.archive.median();
+    return spread(own / r.yardstick.median(), own / r.yardstick.high(), own / r.yardstick.low());
+}
+
+void print(const Row &r)
+{
     std::cout << "| " << r.call << " | " << r.set << " | " << r.trials << " | "
-              << spread(own, r.archive.low(), r.archive.high()) << " | "
-              << spread(own / r.rust.median(), own / r.rust.high(), own / r.rust.low()) << " | "
-              << times(r.textbook, r.archive) << " | " << times(r.pagmo, r.archive) << " | "
-              << r.tally.text() << " |" << std::endl;
+              << spread(r.archive) << " | " << cost(r) << " | " << times(r.textbook, r.archive)
+              << " | " << times(r.pagmo, r.archive) << " | " << r.tally.text() << " |" << std::endl;
+}
+
+void print_four_axes(const Row &r)
+{
+    std::cout << "| " << r.call << " | " << r.set << " | " << r.trials << " | "
+              << spread(r.archive) << " | " << spread(r.yardstick) << " | " << spread(r.pagmo)
+              << " | " << cost(r) << " | " << times(r.pagmo, r.archive) << " | " << r.tally.text()
+              << " |" << std::endl;
 }
 
 const std::string all_contributions = "all contributions (audit)";
@@ -394,9 +437,13 @@ const std::string reducing = "reduce";
 const std::string card_written = "card written";
 const std::string one_report = "report";
 const std::string in_doubles = "volume in doubles";
+const std::string on_four_axes = "contributions on four axes";
 
 // Coordinates that many points share.
 const std::uint32_t coarse = 32;
+
+// The largest reference on four axes.
+const std::uint32_t four_scale = 32768;
 
 // The largest cube of at most 2^53 cells, which a double can count.
 const std::uint32_t countable = 208063;
@@ -412,10 +459,31 @@ public:
 
     void run()
     {
+        const std::vector<Kind> kinds{Kind::cliff, Kind::spherical, Kind::uniform};
         small_sets();
+        if (only != on_four_axes)
+            three_axes(kinds);
+        if (wanted(on_four_axes))
+            four_axes(kinds);
+        if (rows.empty())
+            throw std::runtime_error("no such call: " + only);
+        notes();
+        if (wanted(in_doubles))
+            distances(kinds);
+        if (wanted(on_four_axes))
+            distances_on_four_axes();
+        if (wanted(all_contributions))
+            smallest();
+        targets();
+    }
+
+private:
+    bool wanted(const std::string &call) const { return only.empty() || call == only; }
+
+    void three_axes(const std::vector<Kind> &kinds)
+    {
         std::cout << "| call | set | trials | archive, µs | archive ÷ rust | textbook ÷ archive "
                      "| pagmo ÷ archive | pagmo wrong |\n|---|---|---|---|---|---|---|---|\n";
-        const std::vector<Kind> kinds{Kind::cliff, Kind::spherical, Kind::uniform};
         for (Kind kind : kinds)
             for (std::size_t size : {64, 200, 512})
                 audits(kind, size, TA_MAX_REFERENCE, name(kind));
@@ -448,18 +516,20 @@ public:
             plain(one_report, report, &Story::report, kind, 8);
         for (Kind kind : kinds)
             volumes(kind);
-        if (rows.empty())
-            throw std::runtime_error("no such call: " + only);
-        notes();
-        if (wanted(in_doubles))
-            distances(kinds);
-        if (wanted(all_contributions))
-            smallest();
-        targets();
     }
 
-private:
-    bool wanted(const std::string &call) const { return only.empty() || call == only; }
+    void four_axes(const std::vector<Kind> &kinds)
+    {
+        std::cout << (rows.empty() ? "" : "\n")
+                  << "| call | set | points | archive, µs | C++, µs | pagmo, µs | archive ÷ C++ "
+                     "| pagmo ÷ archive | pagmo wrong |\n|---|---|---|---|---|---|---|---|---|\n";
+        for (Kind kind : kinds)
+            for (std::size_t size : {200, 512})
+                counts(kind, size, four_scale, name(kind));
+        counts(Kind::spoiled, 512, four_scale, name(Kind::spoiled));
+        for (Kind kind : {Kind::spherical, Kind::uniform})
+            counts(kind, 200, coarse, name(kind) + ", 0 to 32");
+    }
 
     static Story agreed_story(const Set &set)
     {
@@ -475,6 +545,7 @@ private:
         for (std::uint64_t seed = 0; seed < 300; seed++) {
             Kind kind = static_cast<Kind>(seed % 3);
             Story story = agreed_story(make_set(kind, 2 + seed % 23, 1 + seed % 7, false, seed));
+            Case on_four = small_four_axes(seed);
             for (const Library *library : {&archive, &yardstick}) {
                 compare(*library, audit, "small audit", {story.audit()});
                 compare(*library, insertion, "small insertion", {story.insertion()});
@@ -488,6 +559,7 @@ private:
                 compare(*library, card_write, "small card written", {story.card_written()});
                 compare(*library, report, "small report", {story.report()});
                 compare(*library, volume, "small volume", {story.volume(), layered(seed)});
+                compare(*library, count4, "small " + on_four_axes, {on_four});
                 compare_no(*library, {story.audit()});
             }
         }
@@ -501,6 +573,20 @@ private:
             p[2] -= p[2] % 99991;
         set.reference[seed % 3] = 700001;
         return volume_of(set);
+    }
+
+    // Points past the reference are among them. The exact answer is a count cell by cell.
+    static Case small_four_axes(std::uint64_t seed)
+    {
+        Random random(seed);
+        Set4 set = make_set<4>(static_cast<Kind>(seed % 3), seed % 24, 1 + seed % 7, false, seed);
+        for (std::uint32_t &number : set.reference)
+            number = 1 + static_cast<std::uint32_t>(random.next() % 7);
+        Case c = four_axes_of(set);
+        std::vector<Count> cells = textbook::cells(set.points, set.reference);
+        if (!std::equal(cells.begin(), cells.end(), c.after.words.begin()))
+            throw std::runtime_error("two textbook counts on four axes differ");
+        return c;
     }
 
     const std::vector<Story> &stories(Kind kind, std::size_t size, std::uint32_t scale)
@@ -526,19 +612,22 @@ private:
     {
         compare(archive, task, r.call, cases);
         compare(yardstick, task, r.call, cases);
-        Contestant own = on_words(archive, task, batch), rust = on_words(yardstick, task, batch);
-        std::vector<Contestant *> contestants{&own, &rust};
-        for (Contestant *other : {textbook.get(), pagmo.get()})
-            if (other != nullptr)
-                contestants.push_back(other);
+        Contestant own = on_words(archive, task, batch), other = on_words(yardstick, task, batch);
+        std::vector<Contestant *> contestants{&own, &other};
+        for (Contestant *recounting : {textbook.get(), pagmo.get()})
+            if (recounting != nullptr)
+                contestants.push_back(recounting);
         measure(contestants, cases, effort);
         r.archive = own.samples;
-        r.rust = rust.samples;
+        r.yardstick = other.samples;
         if (textbook != nullptr)
             r.textbook = textbook->samples;
         if (pagmo != nullptr)
             r.pagmo = pagmo->samples;
-        print(r);
+        if (r.call == on_four_axes)
+            print_four_axes(r);
+        else
+            print(r);
         rows.push_back(r);
     }
 
@@ -603,6 +692,37 @@ private:
         row(r, volume, 8, asked, made(textbook_volume()), made(peer_total()));
     }
 
+    void counts(Kind kind, std::size_t size, std::uint32_t scale, const std::string &set)
+    {
+        std::vector<Case> asked;
+        for (std::uint64_t seed = 0; seed < effort.sets; seed++)
+            asked.push_back(
+                four_axes_of(make_set<4>(kind, size, scale, kind != Kind::uniform, seed)));
+        Row r{on_four_axes, set, std::to_string(size), {}, {}, {}, {}, peer_contributions(asked)};
+        row(r, count4, 1, asked, nullptr, made(peer_recount()));
+        Distance d{set, std::to_string(size), {}, {}};
+        for (const Case &c : asked) {
+            std::vector<double> figures = ready_of(c).contributions();
+            for (std::size_t i = 0; i < figures.size(); i++)
+                d.contributions.add(cells_off(figures[i], c.exact[i]));
+            d.totals.add(cells_off(peer_volume(c), c.after.words[0]));
+        }
+        far.push_back(d);
+    }
+
+    // How far the peer's figures are from the exact counts.
+    void distances_on_four_axes() const
+    {
+        std::cout << "\nContributions on four axes: cells between pagmo's figures and the exact "
+                     "counts, which the archive's are; the median of all points of the sets and in "
+                     "brackets the least and the most, and the same of the sets' totals.\n\n"
+                     "| set | points | pagmo's contributions, cells off | pagmo's total, cells off "
+                     "|\n|---|---|---|---|\n";
+        for (const Distance &d : far)
+            std::cout << "| " << d.set << " | " << d.points << " | "
+                      << whole_spread(d.contributions) << " | " << whole_spread(d.totals) << " |\n";
+    }
+
     // How far the volumes are from the exact count.
     void distances(const std::vector<Kind> &kinds)
     {
@@ -650,10 +770,10 @@ private:
 
     static void notes()
     {
-        std::cout << "\nMedians, in brackets the 10th and the 90th percentile: of the archive in "
-                     "its own column, "
-                     "of the other one in a column of ratios.\n"
-                     "pagmo wrong: contributions for all contributions, insertion and removal; "
+        std::cout << "\nMedians, in brackets the 10th and the 90th percentile: of each in its own "
+                     "column, of the one beside the archive in a column of ratios.\n"
+                     "pagmo wrong: contributions for all contributions, insertion, removal and "
+                     "four axes; "
                      "least contributors "
                      "for the three calls; drops for reduce; totals for volume in doubles. A count "
                      "below 2^53 is compared exactly, a "
@@ -672,13 +792,11 @@ private:
         for (Count exact : asked[0].exact)
             std::cout << ' ' << exact;
         std::cout << " (archive and rust: the same); pagmo's contributions";
-        for (double answer :
-             peer::Ready(doubles(set.points), doubles(set.reference)).contributions())
+        for (double answer : ready_of(asked[0]).contributions())
             std::cout << ' ' << answer;
         std::cout << ", one by one (exclusive)";
         for (std::size_t i = 0; i < set.points.size(); i++)
-            std::cout << ' '
-                      << peer::Ready(doubles(set.points), doubles(set.reference)).exclusive(i);
+            std::cout << ' ' << ready_of(asked[0]).exclusive(i);
         std::cout << ".\n";
     }
 
@@ -705,9 +823,14 @@ private:
             std::vector<double> ratios;
             for (const Row &r : rows)
                 if (r.call == call)
-                    ratios.push_back(r.archive.median() / r.rust.median());
+                    ratios.push_back(r.archive.median() / r.yardstick.median());
             target(call + ", archive ÷ rust", ratios, true, bound);
         }
+        std::vector<double> against_cpp;
+        for (const Row &r : rows)
+            if (r.call == on_four_axes && r.trials == "512")
+                against_cpp.push_back(r.archive.median() / r.yardstick.median());
+        target(on_four_axes + " at 512, archive ÷ C++", against_cpp, true, 1.9);
         auto against_call = [this](const std::string &call, const std::string &other) {
             std::vector<double> ratios;
             for (const Row &r : rows)
@@ -743,6 +866,7 @@ private:
     std::string only;
     std::map<std::tuple<Kind, std::size_t, std::uint32_t>, std::vector<Story>> told;
     std::vector<Row> rows;
+    std::vector<Distance> far;
 };
 
 } // namespace

@@ -138,6 +138,57 @@ inline Count front(const std::vector<Point> &points)
     }));
 }
 
+// Four axes: total and contributions, one behind the other, of any points, past the reference too.
+// The points cut the box into slices along w, and in each slice those passed are counted on the
+// three other axes. A point past the reference stands for one at it.
+inline std::vector<Count> four_axes(std::vector<Point4> points, Point4 reference)
+{
+    for (Point4 &p : points)
+        for (std::size_t axis = 0; axis < 4; axis++)
+            p[axis] = std::min(p[axis], reference[axis]);
+    std::vector<std::size_t> order(points.size());
+    std::iota(order.begin(), order.end(), std::size_t{0});
+    std::sort(order.begin(), order.end(),
+              [&](std::size_t i, std::size_t j) { return points[i][3] < points[j][3]; });
+    Point slice_reference{reference[0], reference[1], reference[2]};
+    std::vector<Point> passed;
+    std::vector<Count> result(points.size() + 1);
+    for (std::size_t i = 0; i < order.size(); i++) {
+        Point4 p = points[order[i]];
+        passed.push_back(Point{p[0], p[1], p[2]});
+        std::uint32_t top = i + 1 < order.size() ? points[order[i + 1]][3] : reference[3];
+        if (top == p[3])
+            continue;
+        result[0] += total(passed, slice_reference) * (top - p[3]);
+        std::vector<Count> own = alone(passed, slice_reference);
+        for (std::size_t k = 0; k < own.size(); k++)
+            result[1 + order[k]] += own[k] * (top - p[3]);
+    }
+    return result;
+}
+
+// The same, cell by cell.
+inline std::vector<Count> cells(const std::vector<Point4> &points, Point4 reference)
+{
+    std::vector<Count> result(points.size() + 1);
+    Point4 cell;
+    for (cell[0] = 0; cell[0] < reference[0]; cell[0]++)
+        for (cell[1] = 0; cell[1] < reference[1]; cell[1]++)
+            for (cell[2] = 0; cell[2] < reference[2]; cell[2]++)
+                for (cell[3] = 0; cell[3] < reference[3]; cell[3]++) {
+                    std::size_t by = 0, last = 0;
+                    for (std::size_t i = 0; i < points.size(); i++)
+                        if (dominates<4>(points[i], cell)) {
+                            by++;
+                            last = i;
+                        }
+                    result[0] += by > 0;
+                    if (by == 1)
+                        result[1 + last]++;
+                }
+    return result;
+}
+
 } // namespace textbook
 
 #endif
