@@ -1,7 +1,2 @@
--- Rows: the rows of the call. Reading: the points of the coordinates. Layers: one more point, along the last axis. Sweeping:
--- the points in turn. Finishing: the counts in the order of the input.
+-- The rows of the call, and how it ends.
 mod Rows
-mod Reading
-mod Layers
-mod Sweeping
-mod Finishing

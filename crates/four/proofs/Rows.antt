@@ -11,11 +11,12 @@ use lib.Dec.{leb, ltb, eqb}
 use borrow.Author.Tests.{le-leb, lt-leb, lt-ltb, le-ltb, eq-eqb, ne-eqb, eqb-true, ltb-false, not-false}
 use Rattle.slices.specs.Choices.{both}
 use Rattle.slices.specs.Put.{put}
-use Rattle.slices.proofs.Choices.{both-comm, both-true, both-intro}
+use Rattle.slices.proofs.Choices.{both-comm}
 use Rattle.words.specs.Format.{guard, within, each}
 use Rattle.words.proofs.Passed.{guard-none}
-use Rattle.four.specs.Count4.{points-of, count4-rows, counts-of, written-or, count4, counted4}
-use Rattle.four.specs.Passing.{Readable}
+use Rattle.sweep4.specs.Quadruples.{points-of, counts-of}
+use Rattle.sweep4.specs.Passing.{Readable}
+use Rattle.four.specs.Count4.{count4-rows, written-or, count4, counted4}
 
 -- Four numbers, each judged.
 pub each-four : (test : ℕ → Bool) (a b c d : ℕ) → each test (a ∷ b ∷ c ∷ d ∷ []) ≡ both (test a) (both (test b) (both (test c) (test d)))
@@ -106,15 +107,6 @@ allowed r coords room e =
           };
       enough = omega (arith, ltb-false room (length coords / 4 + 1) (five .0));
     }
-
--- A reference in two parts, each judged.
-pub each-parts : (test : ℕ → Bool) (l m : List ℕ) → each test (l ++ m) ≡ true → (each test l ≡ true) × (each test m ≡ true)
-unfolding each
-each-parts test [] m e = (refl, e)
-each-parts test (a ∷ l) m e =
-    let parts = both-true (test a) (each test (l ++ m)) e in
-    let later = each-parts test l m (parts .1) in
-    (both-intro (test a) (each test l) (parts .0) (later .0), later .1)
 
 -- The call's outcome: turned down, or counted.
 module _ (r coords out : List ℕ) {row : ℕ} (e : row ≡ count4-rows r coords (length out)) where

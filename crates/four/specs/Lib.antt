@@ -1,3 +1,2 @@
--- Count4 is what the call is and answers; Passing is for the contracts of the code.
+-- A fourth score: the call.
 pub mod Count4
-pub mod Passing

@@ -7,7 +7,7 @@ use denote.Ref.{now}
 use borrow.Author.Needs.{needs}
 use Rattle.slices.specs.Put.{put}
 use Rattle.words.proofs.Passed.{each-bounds}
-use Rattle.four.specs.Count4.{points-of, counts-of}
+use Rattle.sweep4.specs.Quadruples.{points-of, counts-of}
 use Rattle.four.proofs.Rows.{Allowed, allowed, refused, done}
 use Rattle.four.proofs.count4.Statement.{statement}
 use Rattle.four.proofs.count4.Tie as tie

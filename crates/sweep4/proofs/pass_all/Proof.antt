@@ -4,9 +4,9 @@ use mathlib.Core.Path.{_≡_, refl, sym, _∙_}
 use native.Mathlib.Omega.{arith}
 use lib.ListN.{length}
 use borrow.Author.Needs.{needs}
-use Rattle.four.proofs.Sweeping.{Sweeping, sweeping-none, sweeping-few, sweeping-place, sweeping-recounting, sweeping-scratch, sweeping-fits, sweeping-more, sweeping-end}
-use Rattle.four.proofs.pass_all.Statement.{statement}
-use Rattle.four.proofs.pass_all.Tie as tie
+use Rattle.sweep4.proofs.Sweeping.{Sweeping, sweeping-none, sweeping-few, sweeping-place, sweeping-recounting, sweeping-scratch, sweeping-fits, sweeping-more, sweeping-end}
+use Rattle.sweep4.proofs.pass_all.Statement.{statement}
+use Rattle.sweep4.proofs.pass_all.Tie as tie
 
 abbrev Inv-loop : tie.InvT-loop
 Inv-loop coords keys reference r₄ own₀ whose₀ points₀ corners₀ places₀ line₀ counts₀ total₀ i₀ own whose points corners places line counts total i =
@@ -31,11 +31,11 @@ three c = search needs
 few : (c : tie.In-loop Inv-loop μ-loop) → c .before .loop .i < 512
 few c = sweeping-few (began (c .before) .pre .0) (three c) (c .before .loop .inv) (c .loop-test .taken)
 
-mul-key : tie.Need-mul-key Inv-loop μ-loop
-mul-key c = omega (arith, few c)
+mul-place : tie.Need-mul-place Inv-loop μ-loop
+mul-place c = omega (arith, few c)
 
-shared-slice-read-key : tie.Need-shared-slice-read-key Inv-loop μ-loop
-shared-slice-read-key c = c .before .loop-test .taken
+shared-slice-read-place : tie.Need-shared-slice-read-place Inv-loop μ-loop
+shared-slice-read-place c = c .before .loop-test .taken
 
 cast-place : tie.Need-cast-place Inv-loop μ-loop
 cast-place c = search needs
@@ -46,8 +46,8 @@ read-point-requires c κs =
     let pre = began (turn .before) .pre in
     (pre .0 .readable, sweeping-place (pre .0) (three turn) (turn .before .loop .inv) (turn .loop-test .taken))
 
-edge-requires : tie.Need-edge-requires Inv-loop μ-loop
-edge-requires c κs = search needs
+height-of-requires : tie.Need-height-of-requires Inv-loop μ-loop
+height-of-requires c κs = c .before .before .loop-test .taken
 
 slice-aggregate-pass : tie.Need-slice-aggregate-pass Inv-loop μ-loop
 slice-aggregate-pass c = sym (c .before .before .before .before .before .loop .inv .points-long)
@@ -69,12 +69,12 @@ pass-requires c κs =
     let turn = c .before .before .before .before .before .before .before .before .before .before in
     let inv = turn .before .loop .inv in
     let pre = began (turn .before) .pre in
-    (sweeping-recounting (pre .0) (three turn) inv (turn .loop-test .taken) (c .before .before .before .before .before .before .before .before .read-point .ensures) (c .before .before .before .before .before .before .before .edge .ensures), sweeping-scratch (pre .0) (three turn) inv (turn .loop-test .taken), few turn, omega (arith, few turn, inv .points-long), omega (arith, few turn, inv .own-long), omega (arith, few turn, inv .whose-long))
+    (sweeping-recounting (pre .0) (three turn) inv (turn .loop-test .taken) (c .before .before .before .before .before .before .before .before .read-point .ensures) (c .before .before .before .before .before .before .before .height-of .ensures), sweeping-scratch (pre .0) (three turn) inv (turn .loop-test .taken), few turn, omega (arith, few turn, inv .points-long), omega (arith, few turn, inv .own-long), omega (arith, few turn, inv .whose-long))
 
 add-total : tie.Need-add-total Inv-loop μ-loop
 add-total c =
     let turn = c .before .before .before .before .before .before .before .before .before .before .before .before .before .before .before .before .before .before .before .before in
-    record { fits = sweeping-fits (began (turn .before) .pre .0) (three turn) (turn .before .loop .inv) (turn .loop-test .taken) (c .before .before .before .before .before .before .before .before .before .before .before .before .before .before .before .before .before .before .read-point .ensures) (c .before .before .before .before .before .before .before .before .before .before .before .before .before .before .before .before .before .edge .ensures) (c .before .before .before .before .before .before .before .before .before .pass .ensures) }
+    record { fits = sweeping-fits (began (turn .before) .pre .0) (three turn) (turn .before .loop .inv) (turn .loop-test .taken) (c .before .before .before .before .before .before .before .before .before .before .before .before .before .before .before .before .before .before .read-point .ensures) (c .before .before .before .before .before .before .before .before .before .before .before .before .before .before .before .before .before .height-of .ensures) (c .before .before .before .before .before .before .before .before .before .pass .ensures) }
 
 add-i : tie.Need-add-i Inv-loop μ-loop
 add-i c = omega (arith, few (c .before .before .before .before .before .before .before .before .before .before .before .before .before .before .before .before .before .before .before .before))
@@ -86,7 +86,7 @@ loop-again : tie.Need-loop-again Inv-loop μ-loop
 loop-again c =
     let turn = c .before .before .before .before .before .before .before .before .before .before .before .before .before .before .before .before .before .before .before .before in
     let passed = c .before .before .before .before .before .before .before .before .before in
-    sweeping-more (began (turn .before) .pre .0) (three turn) (turn .before .loop .inv) (turn .loop-test .taken) (c .before .before .before .before .before .before .before .before .before .before .before .before .before .before .before .before .before .before .read-point .ensures) (c .before .before .before .before .before .before .before .before .before .before .before .before .before .before .before .before .before .edge .ensures) (passed .pass .ensures)
+    sweeping-more (began (turn .before) .pre .0) (three turn) (turn .before .loop .inv) (turn .loop-test .taken) (c .before .before .before .before .before .before .before .before .before .before .before .before .before .before .before .before .before .before .read-point .ensures) (c .before .before .before .before .before .before .before .before .before .before .before .before .before .before .before .before .before .height-of .ensures) (passed .pass .ensures)
     (passed .pass .kept .1 .1 .1 .1 .1 .0)
     (passed .pass .kept .1 .1 .1 .1 .1 .1 .0)
     (passed .pass .kept .1 .1 .1 .1 .1 .1 .1 .0)
@@ -111,11 +111,11 @@ pass-all-spec =
     Inv-loop
     μ-loop
     loop-holds
-    mul-key
-    shared-slice-read-key
+    mul-place
+    shared-slice-read-place
     cast-place
     read-point-requires
-    edge-requires
+    height-of-requires
     slice-aggregate-pass
     slice-aggregate-pass-2
     slice-aggregate-pass-3

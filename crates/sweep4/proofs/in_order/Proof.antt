@@ -2,10 +2,10 @@
 use mathlib.Core.Path.{sym, _∙_}
 use borrow.Author.Needs.{needs}
 use Rattle.order.proofs.Keys.{keyed-orderable}
-use Rattle.four.proofs.Reading.{points-few}
-use Rattle.four.proofs.Sweeping.{taking, sweeping-counted}
-use Rattle.four.proofs.in_order.Statement.{statement}
-use Rattle.four.proofs.in_order.Tie as tie
+use Rattle.sweep4.proofs.Reading.{points-few}
+use Rattle.sweep4.proofs.Sweeping.{taking, sweeping-counted}
+use Rattle.sweep4.proofs.in_order.Statement.{statement}
+use Rattle.sweep4.proofs.in_order.Tie as tie
 
 load-keys-requires : tie.Need-load-keys-requires
 load-keys-requires c κs = search needs

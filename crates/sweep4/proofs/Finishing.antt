@@ -25,10 +25,10 @@ use Rattle.order.proofs.Sums.{equal-one}
 use Rattle.order.proofs.Somes.{Found, found, some-sum}
 use Rattle.order.proofs.Keys.{cover-over, by-places, by-keys, many, place-of}
 use Rattle.sweep.proofs.Front.{getD-mapped}
-use Rattle.four.specs.Count4.{points-of, counts-of}
-use Rattle.four.specs.Passing.{at-places, Swept, Counted, Placeable}
-use Rattle.four.proofs.Reading.{points-many}
-use Rattle.four.proofs.Sweeping.{each-held}
+use Rattle.sweep4.specs.Quadruples.{points-of, counts-of}
+use Rattle.sweep4.specs.Passing.{at-places, Swept, Counted, Placeable}
+use Rattle.sweep4.proofs.Reading.{points-many}
+use Rattle.sweep4.proofs.Sweeping.{each-held}
 
 spread-none : (l numbers : List ℕ) → spread l [] numbers ≡ l
 unfolding spread

@@ -8,7 +8,7 @@ use Rattle.hypervolume.specs.Counts.{total, contributions}
 use Rattle.order.specs.Order.{sum-of}
 use Rattle.order.specs.Keys.{Taken}
 use Rattle.words.specs.Format.{within, each}
-use Rattle.four.specs.Count4.{points-of}
+use Rattle.sweep4.specs.Quadruples.{points-of}
 
 -- Rows 17, 20 and 6 have passed.
 pub record Readable (coords : List ℕ) : Type 0 where

@@ -3,9 +3,9 @@ use Prim.Native.Nat.{_+_, _*_}
 use mathlib.Core.Path.{_∙_}
 use native.Mathlib.Omega.{arith}
 use borrow.Author.Needs.{needs}
-use Rattle.four.proofs.Reading.{coordinate-small, seen-at}
-use Rattle.four.proofs.read_point.Statement.{statement}
-use Rattle.four.proofs.read_point.Tie as tie
+use Rattle.sweep4.proofs.Reading.{coordinate-small, seen-at}
+use Rattle.sweep4.proofs.read_point.Statement.{statement}
+use Rattle.sweep4.proofs.read_point.Tie as tie
 
 mul-new : tie.Need-mul-new
 mul-new c = search needs

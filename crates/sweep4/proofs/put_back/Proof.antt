@@ -5,9 +5,9 @@ use native.Mathlib.Omega.{arith}
 use lib.ListN.{length, length-set}
 use denote.Ref.{now}
 use borrow.Author.Needs.{needs}
-use Rattle.four.proofs.Finishing.{Putting, putting-none, putting-long, putting-inside, putting-few, putting-more, putting-end}
-use Rattle.four.proofs.put_back.Statement.{statement}
-use Rattle.four.proofs.put_back.Tie as tie
+use Rattle.sweep4.proofs.Finishing.{Putting, putting-none, putting-long, putting-inside, putting-few, putting-more, putting-end}
+use Rattle.sweep4.proofs.put_back.Statement.{statement}
+use Rattle.sweep4.proofs.put_back.Tie as tie
 
 abbrev Inv-loop : tie.InvT-loop
 Inv-loop total own whose out₀ i₀ out i = Putting total own whose out₀ out i

@@ -10,6 +10,7 @@ use lib.Dec.{leb}
 use lib.ListN.{length, take, getD, length-map, length-take, List·getD-eq-default}
 use lib.Seq.{length-take-le, getD-take}
 use borrow.Author.Tests.{le-leb, leb-true}
+use Rattle.slices.proofs.Choices.{both-true, both-intro}
 use Rattle.hypervolume.specs.Cells.{holds, box}
 use Rattle.hypervolume.specs.Counts.{total, contributions, gain, joints}
 use Rattle.hypervolume.specs.Sorted.{Small, Sorted}
@@ -25,11 +26,10 @@ use Rattle.sweep.proofs.Front.{getD-mapped}
 use Rattle.corners.specs.Updating.{Scratch}
 use Rattle.held.specs.Held.{entered, Entered, Recounting, Passed}
 use Rattle.held.proofs.Entering.{map-entered}
-use Rattle.four.specs.Count4.{points-of}
-use Rattle.four.specs.Passing.{Readable, at-places, Taking, Swept, Counted}
-use Rattle.four.proofs.Rows.{each-parts}
-use Rattle.four.proofs.Reading.{points-many, point-small, points-few}
-use Rattle.four.proofs.Layers.{layered-gain, enough, entered-total, entered-contributions, small-box}
+use Rattle.sweep4.specs.Quadruples.{points-of}
+use Rattle.sweep4.specs.Passing.{Readable, at-places, Taking, Swept, Counted}
+use Rattle.sweep4.proofs.Reading.{points-many, point-small, points-few}
+use Rattle.sweep4.proofs.Layers.{layered-gain, enough, entered-total, entered-contributions, small-box}
 
 sum-entered : (f : ℕ → ℕ) (k a : ℕ) (l : List ℕ) → sum-of f (entered k a l) ≡ sum-of f l + f a
 unfolding sum-of entered
@@ -65,10 +65,19 @@ each-held keys held i l m same test h k o = go (test (getD held k 0)) refl
     go true e = refl
     go false e = absurd (let no′ : 1 ≤ 0 = subst (λ t. holds (not t) ≤ 0) e here in (let no″ : ⊥ = omega arith in no″))
 
+-- A reference in two parts, each judged.
+pub each-part : (test : ℕ → Bool) (l m : List ℕ) → each test (l ++ m) ≡ true → (each test l ≡ true) × (each test m ≡ true)
+unfolding each
+each-part test [] m e = (refl, e)
+each-part test (a ∷ l) m e =
+    let parts = both-true (test a) (each test (l ++ m)) e in
+    let later = each-part test l m (parts .1) in
+    (both-intro (test a) (each test l) (parts .0) (later .0), later .1)
+
 -- What the keys in order are.
 pub taking : {coords given keys reference : List ℕ} {r₄ : ℕ} → Readable coords → Keyed 3 (points-of coords) given → Ordered given keys → each (within 1 32768) (reference ++ (r₄ ∷ [])) ≡ true → Taking coords keys reference r₄
 taking {coords} {given} {keys} {reference} {r₄} r k o e =
-    let parts = each-parts (within 1 32768) reference (r₄ ∷ []) e in
+    let parts = each-part (within 1 32768) reference (r₄ ∷ []) e in
     record {
       readable = r;
       taken = record { few = points-few r; given = given; keyed = k; ordered = o };

@@ -3,9 +3,9 @@ use Prim.Native.Nat.{_-_, _+_, _*_, _/_, _<_}
 use native.Mathlib.Omega.{arith}
 use lib.ListN.{length}
 use denote.Ref.{now}
-use Rattle.four.proofs.Reading.{coordinate-small, Keying, keying-none, keying-more, keying-end}
-use Rattle.four.proofs.load_keys.Statement.{statement}
-use Rattle.four.proofs.load_keys.Tie as tie
+use Rattle.sweep4.proofs.Reading.{coordinate-small, Keying, keying-none, keying-more, keying-end}
+use Rattle.sweep4.proofs.load_keys.Statement.{statement}
+use Rattle.sweep4.proofs.load_keys.Tie as tie
 
 abbrev Inv-loop : tie.InvT-loop
 Inv-loop coords keys₀ i₀ keys i = Keying coords keys₀ keys i

@@ -6,9 +6,9 @@ use lib.ListN.{length, replicate}
 use lib.Seq.{length-take-le}
 use denote.Ref.{now}
 use borrow.Author.Needs.{needs}
-use Rattle.four.proofs.Finishing.{count-placeable, count-put}
-use Rattle.four.proofs.count.Statement.{statement}
-use Rattle.four.proofs.count.Tie as tie
+use Rattle.sweep4.proofs.Finishing.{count-placeable, count-put}
+use Rattle.sweep4.proofs.count.Statement.{statement}
+use Rattle.sweep4.proofs.count.Tie as tie
 
 array-borrow-prefix-keys : tie.Need-array-borrow-prefix-keys
 array-borrow-prefix-keys c = search needs

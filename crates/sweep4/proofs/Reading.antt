@@ -10,8 +10,8 @@ use Rattle.hypervolume.specs.Sorted.{Small}
 use Rattle.words.specs.Format.{within, each}
 use Rattle.words.proofs.Passed.{each-bounds}
 use Rattle.order.specs.Keys.{Keyed, Few}
-use Rattle.four.specs.Count4.{points-of}
-use Rattle.four.specs.Passing.{Readable}
+use Rattle.sweep4.specs.Quadruples.{points-of}
+use Rattle.sweep4.specs.Passing.{Readable}
 
 pub points-many : (coords : List ℕ) → length (points-of coords) ≡ length coords / 4
 unfolding points-of
