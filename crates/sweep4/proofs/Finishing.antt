@@ -1,14 +1,14 @@
 -- The counts put back in the order of the input: the points held are all points, each at its place.
 use Prim.Native.Nat.{ℕ, zero, suc, _+_, _-_, _/_, _%_, _≤_, _<_}
 use mathlib.Core.Path.{_≡_, refl, sym, ap, subst, _∙_}
-use mathlib.Core.Bool.{Bool, true, false}
+use mathlib.Core.Bool.{true}
 use mathlib.Core.Logic.{_⊎_, inl, inr}
-use mathlib.Core.List.{List, _∷_, _++_, map, []}
+use mathlib.Core.List.{List, _∷_, _++_, []}
 use native.Mathlib.Decide.{decLt}
 use native.Mathlib.Nat.{zero-add}
 use native.Mathlib.Numerals.{add-one}
 use native.Mathlib.Omega.{arith}
-use lib.Dec.{leb, ltb, eqb}
+use lib.Dec.{ltb, eqb}
 use lib.ListN.{length, take, drop, getD, set, length-set, length-map, length-append, length-drop, List·getD-append}
 use lib.Seq.{length-take-le, getD-take, take-all, drop-set-lt, getD-append-add, getD-drop}
 use borrow.Author.Tests.{le-leb, lt-ltb, ltb-true, eqb-true}

@@ -1,13 +1,11 @@
 -- The points of the coordinates, four to a point, and their keys.
 use Prim.Native.Nat.{ℕ, zero, suc, _+_, _*_, _/_, _≤_, _<_}
-use mathlib.Core.Path.{_≡_, refl, ap, _∙_}
+use mathlib.Core.Path.{_≡_, refl, sym, ap, _∙_}
 use mathlib.Core.List.{List, _∷_, []}
 use native.Mathlib.Decide.{decLt}
 use native.Mathlib.Omega.{arith}
 use lib.ListN.{length, take, getD, set, length-set, List·getD-eq-default}
 use lib.Seq.{getD-set-same, getD-set-other}
-use Rattle.hypervolume.specs.Sorted.{Small}
-use Rattle.words.specs.Format.{within, each}
 use Rattle.words.proofs.Passed.{each-bounds}
 use Rattle.order.specs.Keys.{Keyed, Few}
 use Rattle.sweep4.specs.Quadruples.{points-of}
@@ -92,8 +90,5 @@ module _ {coords old keys : List ℕ} {i : ℕ} (h : Keying coords old keys i) w
         long = omega (arith, h .long, points-many coords);
         each = λ j m.
             let inside : j < length coords / 4 = omega (arith, points-many coords) in
-            h .each j (omega (arith, h .long)) ∙ ap (λ p. getD p 3 0 * 512 + j) (sym′ (points-at coords j inside));
+            h .each j (omega (arith, h .long)) ∙ ap (λ p. getD p 3 0 * 512 + j) (sym (points-at coords j inside));
       }
-    where
-      sym′ : {a b : List ℕ} → a ≡ b → b ≡ a
-      sym′ e = rw e

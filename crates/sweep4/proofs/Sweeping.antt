@@ -12,7 +12,7 @@ use lib.Seq.{length-take-le, getD-take}
 use borrow.Author.Tests.{le-leb, leb-true}
 use Rattle.slices.proofs.Choices.{both-true, both-intro}
 use Rattle.hypervolume.specs.Cells.{holds, box}
-use Rattle.hypervolume.specs.Counts.{total, contributions, gain, joints}
+use Rattle.hypervolume.specs.Counts.{total, contributions, gain}
 use Rattle.hypervolume.specs.Sorted.{Small, Sorted}
 use Rattle.hypervolume.proofs.Counting.{total-none, total-le-box, gain-le-box}
 use Rattle.hypervolume.proofs.Last.{Under}
@@ -21,7 +21,7 @@ use Rattle.words.proofs.Passed.{each-bounds}
 use Rattle.order.specs.Order.{sum-of, Ordered}
 use Rattle.order.specs.Keys.{Keyed}
 use Rattle.order.proofs.Sums.{sum-next}
-use Rattle.order.proofs.Keys.{of-key, many, place-of, level-of, rises, sum-front, sum-at}
+use Rattle.order.proofs.Keys.{many, place-of, level-of, rises, sum-front, sum-at}
 use Rattle.sweep.proofs.Front.{getD-mapped}
 use Rattle.corners.specs.Updating.{Scratch}
 use Rattle.held.specs.Held.{entered, Entered, Recounting, Passed}

@@ -1,6 +1,6 @@
 -- Contributions raised by the joint counts that an update left: what raising asks, and what it comes to.
 use Prim.Native.Nat.{ℕ, zero, suc, _+_, _≤_, zero-le}
-use mathlib.Core.Path.{_≡_, sym, ap, subst, _∙_}
+use mathlib.Core.Path.{_≡_, sym, subst, _∙_}
 use mathlib.Core.List.{List, _∷_, _++_, map, []}
 use native.Mathlib.Nat.{le-trans}
 use native.Mathlib.Omega.{arith}

@@ -4,7 +4,6 @@ use mathlib.Core.Path.{_∙_}
 use native.Mathlib.Omega.{arith}
 use lib.ListN.{length, length-set}
 use denote.Ref.{now}
-use borrow.Author.Needs.{needs}
 use Rattle.sweep4.proofs.Finishing.{Putting, putting-none, putting-long, putting-inside, putting-few, putting-more, putting-end}
 use Rattle.sweep4.proofs.put_back.Statement.{statement}
 use Rattle.sweep4.proofs.put_back.Tie as tie
