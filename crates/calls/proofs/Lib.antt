@@ -2,6 +2,7 @@
 pub mod Members
 pub mod Counted
 pub mod Order
+pub mod InOrder
 pub mod Sound
 pub mod Ranking
 pub mod Leading

@@ -8,10 +8,10 @@ use mathlib.Core.List.{List, _∷_, map, List·Memᴰ, List·Memᴰ·head, List�
 use native.Mathlib.Omega.{arith}
 use lib.Dec.{eqb}
 use lib.ListN.{length}
-use borrow.Author.Tests.{eq-eqb, ne-eqb, not-true}
+use borrow.Author.Tests.{eq-eqb, ne-eqb, eqb-false, not-true}
 use Rattle.hypervolume.specs.Counts.{cover}
 use Rattle.hypervolume.proofs.Tests.{Equated, same, differs, equated}
-use Rattle.slices.proofs.Choices.{both-true}
+use Rattle.slices.proofs.Choices.{both-true, either-false}
 use Rattle.hypervolume.proofs.Counting.{SameCover}
 use Rattle.words.specs.Archive.{Trial, Row, trials, points, before}
 use Rattle.slices.specs.Choices.{pick, either}
@@ -140,6 +140,14 @@ row-of-here n r rows e = rw (eq-eqb (r .trial .number) n e)
 pub row-of-later : (n : ℕ) (r : Row) (rows : List Row) → (r .trial .number ≡ n → ⊥) → row-of n (r ∷ rows) ≡ row-of n rows
 unfolding row-of pick
 row-of-later n r rows e = rw (ne-eqb (r .trial .number) n e)
+
+-- A number that is not held has the record of zeros.
+pub row-of-none : (n : ℕ) (rows : List Row) → held n (trials rows) ≡ false → row-of n rows ≡ row-of 0 []
+unfolding held trials
+row-of-none n [] h = unfold row-of in refl
+row-of-none n (r ∷ rows) h =
+    let parts = either-false _ _ h in
+    row-of-later n r rows (eqb-false _ _ (parts .0)) ∙ row-of-none n rows (parts .1)
 
 pub others-here : (n : ℕ) (r : Row) (rows : List Row) → r .trial .number ≡ n → others n (r ∷ rows) ≡ others n rows
 unfolding others pick

@@ -40,6 +40,11 @@ unfoldable pub place : {A : Type 0} → (A → Trial) → A → List A → List 
 place trial a [] = a ∷ []
 place trial a (b ∷ l) = pick (before (trial a) (trial b)) (a ∷ b ∷ l) (b ∷ place trial a l)
 
+-- All of them in the archive's order.
+unfoldable pub in-order : {A : Type 0} → (A → Trial) → List A → List A
+in-order trial [] = []
+in-order trial (a ∷ l) = place trial a (in-order trial l)
+
 -- Insert. "The new record's contribution is its counted gain. The total and every other record's contribution
 -- move by the counted amounts, not by stored ones."
 unfoldable pub insert-gain : Archive → Trial → ℕ

@@ -11,7 +11,7 @@ use Rattle.hypervolume.specs.Cells.{holds, dominates}
 use Rattle.hypervolume.specs.Front.{smaller-somewhere, beats, beaten, unbeaten, front}
 use Rattle.hypervolume.proofs.Front.{unbeaten-alike}
 use Rattle.words.specs.Archive.{Trial, point, points, before}
-use Rattle.calls.specs.Calls.{place}
+use Rattle.calls.specs.Calls.{place, in-order}
 use Rattle.history.specs.Book.{Book, better, none-better, on-front, book-front}
 use Rattle.history.specs.History.{sorted}
 
@@ -68,12 +68,12 @@ place-unbeaten all t (u ∷ ts) = go (before t u) (place-unbeaten all t ts)
     go false e = omega (arith, e)
 
 sorted-beaten : (ts : List Trial) (q : List ℕ) → beaten (points (sorted ts)) q ≡ beaten (points ts) q
-unfolding sorted points beaten
+unfolding in-order points beaten
 sorted-beaten [] q = refl
 sorted-beaten (t ∷ ts) q = place-beaten t (sorted ts) q ∙ ap (either (beats (point t) q)) (sorted-beaten ts q)
 
 sorted-unbeaten : (all : List (List ℕ)) (ts : List Trial) → unbeaten all (points (sorted ts)) ≡ unbeaten all (points ts)
-unfolding sorted points unbeaten
+unfolding in-order points unbeaten
 sorted-unbeaten all [] = refl
 sorted-unbeaten all (t ∷ ts) = place-unbeaten all t (sorted ts) ∙ ap (λ n. holds (not (beaten all (point t))) + n) (sorted-unbeaten all ts)
 

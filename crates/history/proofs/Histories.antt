@@ -10,7 +10,7 @@ use borrow.Author.Tests.{ltb-false, not-false}
 use Rattle.words.specs.Archive.{Shape}
 use Rattle.words.specs.Layout.{extent}
 use Rattle.words.proofs.Passed.{guard-none}
-use Rattle.calls.specs.Calls.{empty}
+use Rattle.calls.specs.Calls.{empty, in-order}
 use Rattle.calls.specs.Lent.{leaves, start-rows, start}
 use Rattle.calls.proofs.Counted.{empty-counted}
 use Rattle.calls.proofs.Sound.{empty-sound}
@@ -49,7 +49,7 @@ runs-alike (c ∷ calls) s rest w b h =
 
 -- A start that is done.
 fresh-start : (s : Shape) → fresh-archive (opened (s .capacity) (s .rx) (s .ry) (s .rz)) ≡ empty s
-unfolding shape-of-book opened sorted
+unfolding shape-of-book opened in-order
 fresh-start s = fresh-is (opened (s .capacity) (s .rx) (s .ry) (s .rz)) ∙ sym (empty-counted s)
 
 -- What a start or a loading that is done has left: words that hold the fresh archive of the book that it opened.

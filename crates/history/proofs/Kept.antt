@@ -22,7 +22,7 @@ use Rattle.calls.proofs.Ranking.{row-of-member}
 use Rattle.history.specs.Book.{Book, counted-contribution}
 use Rattle.history.specs.History.{sorted, shape-of-book, fresh-archive, fresh}
 use Rattle.history.specs.Kept.{HoldsJust, KeepsCounts}
-use Rattle.history.proofs.Sorting.{sorted-cover, sorted-member, member-sorted}
+use Rattle.calls.proofs.InOrder.{in-order-cover, in-order-member, member-in-order}
 use Rattle.history.proofs.Fronts.{sorted-front}
 use Rattle.history.proofs.Thinning.{book-row, fresh-rows, fresh-count, fresh-counted, fresh-trials}
 use Rattle.history.proofs.Steps.{Holds}
@@ -44,7 +44,7 @@ module _ (s : Shape) (rest w : List ℕ) (b : Book) (h : Holds s rest b w) where
   survivor t m =
       rw reads
       (row-of-member (fresh-archive b .rows) (h .sound .apart) (book-row b t)
-      (rw (fresh-rows b) (Memᴰ·map (book-row b) (member-sorted t (b .trials) m))))
+      (rw (fresh-rows b) (Memᴰ·map (book-row b) (member-in-order (λ t. t) t (b .trials) m))))
 
   shape-is : read w .shape ≡ s
   unfolding fresh-archive counted
@@ -54,7 +54,7 @@ module _ (s : Shape) (rest w : List ℕ) (b : Book) (h : Holds s rest b w) where
   trials-are = rw reads (fresh-trials b)
 
   same-points : SameCover (held-points (read w)) (points (b .trials))
-  same-points = rw trials-are (sorted-cover (b .trials))
+  same-points = rw trials-are (in-order-cover (b .trials))
 
   pub holds-just : HoldsJust w s (b .trials)
   unfolding trials book-row
@@ -64,11 +64,11 @@ module _ (s : Shape) (rest w : List ℕ) (b : Book) (h : Holds s rest b w) where
         shape = shape-is;
         count = rw reads (fresh-count b);
         held = λ t m. ap (λ r. r .trial) (survivor t m);
-        no-other = λ r m. sorted-member (r .trial) (b .trials) (rw (← trials-are) (Memᴰ·map (λ q. q .trial) m));
+        no-other = λ r m. in-order-member (λ t. t) (r .trial) (b .trials) (rw (← trials-are) (Memᴰ·map (λ q. q .trial) m));
       }
 
   survivor-held : (t : Trial) → List·Memᴰ t (b .trials) → held (t .number) (held-trials (read w)) ≡ true
-  survivor-held t m = rw trials-are (held-of t (sorted (b .trials)) (member-sorted t (b .trials) m))
+  survivor-held t m = rw trials-are (held-of t (sorted (b .trials)) (member-in-order (λ t. t) t (b .trials) m))
 
   total-is : read w .sum ≡ total (reference s) (points (b .trials))
   total-is =

@@ -1,5 +1,4 @@
--- The book's trials in the archive's order: sorting keeps the members, the numbers and the counts, puts the trials in
--- order, and commutes with striking out.
+-- The book's trials in the archive's order: sorting commutes with striking out.
 use Prim.Native.Nat.{ℕ, suc}
 use mathlib.Core.Path.{_≡_, refl, sym, ap, _∙_}
 use mathlib.Core.Bool.{Bool, true, false}
@@ -16,9 +15,10 @@ use Rattle.hypervolume.proofs.Counting.{SameCover}
 use Rattle.words.specs.Archive.{Trial, Row, trials, points, before}
 use Rattle.slices.specs.Choices.{pick, either}
 use Rattle.words.specs.Format.{held, distinct}
-use Rattle.calls.specs.Calls.{place, others}
-use Rattle.calls.proofs.Members.{map-map, map-id, place-length, place-member, member-place, place-cover}
-use Rattle.calls.proofs.Order.{AscendingTrials, ascending-place, held-place, distinct-place, before-trans, others-trial}
+use Rattle.calls.specs.Calls.{place, in-order, others}
+use Rattle.calls.proofs.Members.{map-map, map-id}
+use Rattle.calls.proofs.Order.{AscendingTrials, before-trans, others-trial}
+use Rattle.calls.proofs.InOrder.{place-front, in-order-ascending}
 use Rattle.words.proofs.Held.{eqb-sym}
 use Rattle.history.specs.Book.{has, struck-out}
 use Rattle.history.specs.History.{sorted}
@@ -28,54 +28,6 @@ pub has-held : (n : ℕ) (ts : List Trial) → has n ts ≡ held n ts
 unfolding has held
 has-held n [] = refl
 has-held n (t ∷ ts) = rw (eqb-sym n (t .number), has-held n ts)
-
-pub sorted-held : (n : ℕ) (ts : List Trial) → held n (sorted ts) ≡ held n ts
-unfolding sorted held
-sorted-held n [] = refl
-sorted-held n (t ∷ ts) = held-place n t (sorted ts) ∙ ap (either (eqb (t .number) n)) (sorted-held n ts)
-
-pub sorted-length : (ts : List Trial) → length (sorted ts) ≡ length ts
-unfolding sorted
-sorted-length [] = refl
-sorted-length (t ∷ ts) = place-length (λ u. u) t (sorted ts) ∙ ap suc (sorted-length ts)
-
-pub sorted-distinct : (ts : List Trial) → distinct (sorted ts) ≡ distinct ts
-unfolding sorted distinct
-sorted-distinct [] = refl
-sorted-distinct (t ∷ ts) =
-    distinct-place t (sorted ts) ∙ rw (sorted-held (t .number) ts, sorted-distinct ts)
-
-pub sorted-cover : (ts : List Trial) → SameCover (points (sorted ts)) (points ts)
-unfolding SameCover sorted cover points
-sorted-cover [] c = refl
-sorted-cover (t ∷ ts) c =
-    let here = place-cover t (sorted ts) c in
-    let later = sorted-cover ts c in
-    omega arith
-
-pub sorted-member : (t : Trial) (ts : List Trial) → List·Memᴰ t (sorted ts) → List·Memᴰ t ts
-unfolding sorted
-sorted-member t [] m = m
-sorted-member t (u ∷ ts) m = go (sorted-member t ts) (List·Memᴰ·cases-cons (place-member (λ v. v) t u (sorted ts) m))
-  where
-    go : (List·Memᴰ t (sorted ts) → List·Memᴰ t ts) → (t ≡ u) ⊎ List·Memᴰ t (sorted ts) → List·Memᴰ t (u ∷ ts)
-    go later (inl e) = List·Memᴰ·head e
-    go later (inr k) = List·Memᴰ·tail (later k)
-
-pub member-sorted : (t : Trial) (ts : List Trial) → List·Memᴰ t ts → List·Memᴰ t (sorted ts)
-unfolding sorted
-member-sorted t (u ∷ ts) m = member-place (λ v. v) t u (sorted ts) (go (member-sorted t ts) (List·Memᴰ·cases-cons m))
-  where
-    go : (List·Memᴰ t ts → List·Memᴰ t (sorted ts)) → (t ≡ u) ⊎ List·Memᴰ t ts → List·Memᴰ t (u ∷ sorted ts)
-    go later (inl e) = List·Memᴰ·head e
-    go later (inr k) = List·Memᴰ·tail (later k)
-
-pub sorted-ascending : (ts : List Trial) → distinct ts ≡ true → AscendingTrials (sorted ts)
-unfolding sorted distinct AscendingTrials
-sorted-ascending [] d = tt
-sorted-ascending (t ∷ ts) d =
-    let parts = both-true _ _ d in
-    ascending-place t (sorted ts) (sorted-held (t .number) ts ∙ not-true _ (parts .0)) (sorted-ascending ts (parts .1))
 
 -- Striking out.
 pub struck-trials : (n : ℕ) (rows : List Row) → trials (others n rows) ≡ struck-out n (trials rows)
@@ -109,12 +61,6 @@ struck-member n ts t m =
   where
     bare : Trial → Row
     bare u = record { trial = u; kept = 0 }
-
--- A trial that stands before all goes to the front.
-place-front : (t : Trial) (ts : List Trial) → ((u : Trial) → List·Memᴰ u ts → before t u ≡ true) → place (λ u. u) t ts ≡ t ∷ ts
-unfolding place pick
-place-front t [] h = refl
-place-front t (u ∷ ts) h = rw (h u (List·Memᴰ·head refl))
 
 -- Striking out of a list in order, with one more trial in its place.
 struck-placed : (n : ℕ) (t : Trial) (ts : List Trial) → n ≡ t .number → struck-out n (place (λ u. u) t ts) ≡ struck-out n ts
@@ -151,14 +97,14 @@ struck-place n t (u ∷ ts) e h = go (before t u) refl (struck-place n t ts e (h
         → struck-out n (place (λ v. v) t (u ∷ ts)) ≡ place (λ v. v) t (struck-out n (u ∷ ts))
     go true b later =
         let first : (v : Trial) → List·Memᴰ v (u ∷ ts) → before t v ≡ true = λ v m. all b v (List·Memᴰ·cases-cons m) in
-        ap (struck-out n) (place-front t (u ∷ ts) first)
+        ap (struck-out n) (place-front (λ v. v) t (u ∷ ts) first)
         ∙ struck-later n t (u ∷ ts) e
-        ∙ sym (place-front t (struck-out n (u ∷ ts)) (λ v m. first v (struck-member n (u ∷ ts) v m)))
+        ∙ sym (place-front (λ v. v) t (struck-out n (u ∷ ts)) (λ v m. first v (struck-member n (u ∷ ts) v m)))
     go false b later =
         ap (struck-out n) (place-behind t u ts b) ∙ behind b later (eqb n (u .number)) (equated n (u .number))
 
 pub sorted-struck : (n : ℕ) (ts : List Trial) → distinct ts ≡ true → sorted (struck-out n ts) ≡ struck-out n (sorted ts)
-unfolding sorted distinct
+unfolding in-order distinct
 sorted-struck n [] d = unfold struck-out in refl
 sorted-struck n (t ∷ ts) d =
     let parts = both-true _ _ d in
@@ -169,4 +115,4 @@ sorted-struck n (t ∷ ts) d =
     go true (same e) later = ap sorted (struck-here n t ts e) ∙ later ∙ sym (struck-placed n t (sorted ts) e)
     go false (differs e) later =
         ap sorted (struck-later n t ts e) ∙ ap (place (λ u. u) t) later
-        ∙ sym (struck-place n t (sorted ts) e (sorted-ascending ts (both-true _ _ d .1)))
+        ∙ sym (struck-place n t (sorted ts) e (in-order-ascending ts (both-true _ _ d .1)))

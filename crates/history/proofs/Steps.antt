@@ -18,7 +18,7 @@ use Rattle.words.specs.Format.{guard, within, number-allowed, coordinates-allow
 use Rattle.words.proofs.Reading.{read-layout, length-layout, behind-layout}
 use Rattle.words.proofs.Passed.{Sound, sound-passes, each-three}
 use Rattle.words.proofs.Short.{part-short}
-use Rattle.calls.specs.Calls.{held-trials, inserted, insert-overruns, admission-rows, insert-rows, removed, remove-overruns, remove-rows, audited, rule-allowed, after-drops, notes, reduce-rows}
+use Rattle.calls.specs.Calls.{held-trials, inserted, insert-overruns, admission-rows, insert-rows, removed, remove-overruns, remove-rows, audited, rule-allowed, after-drops, notes, reduce-rows, in-order}
 use Rattle.calls.specs.Counted.{counted}
 use Rattle.calls.proofs.Members.{split}
 use Rattle.calls.proofs.Counted.{counted-audited, counted-insert, insert-fits, remove-fits}
@@ -27,7 +27,8 @@ use Rattle.calls.specs.Lent
 use Rattle.calls.specs.Lent.{Outcome, leaves}
 use Rattle.history.specs.Book.{Book, Turn, refuse-if, row-1, has, entered, struck, thinned, book-notes, book-insert, book-remove, book-reduce, book-turn}
 use Rattle.history.specs.History.{Call, on-words, lent-of, answered, request, log-of, expected, sorted, shape-of-book, fresh-archive, fresh}
-use Rattle.history.proofs.Sorting.{has-held, sorted-held}
+use Rattle.calls.proofs.InOrder.{in-order-held}
+use Rattle.history.proofs.Sorting.{has-held}
 use Rattle.history.proofs.Thinning.{fresh-is, fresh-count, fresh-counted, fresh-trials, fresh-remove, struck-shape, thins}
 
 -- The words hold the fresh archive of the book, of this shape, and behind it the rest.
@@ -89,7 +90,7 @@ row-6 t =
     ∙ rw (not-both (within 0 1048576 (t .y)) (within 0 1048576 (t .z)), past (t .x), past (t .y), past (t .z))
 
 row-7 : (n : ℕ) (b : Book) → held n (held-trials (fresh-archive b)) ≡ has n (b .trials)
-row-7 n b = rw (fresh-trials b, sorted-held n (b .trials)) (sym (has-held n (b .trials)))
+row-7 n b = rw (fresh-trials b, in-order-held n (b .trials)) (sym (has-held n (b .trials)))
 
 row-8 : (b : Book) → eqb (length (fresh-archive b .rows)) (fresh-archive b .shape .capacity) ≡ eqb (length (b .trials)) (b .capacity)
 unfolding fresh-archive counted shape-of-book
@@ -104,7 +105,7 @@ row-18 (suc (suc r)) =
 
 -- Entering a trial in the book is inserting it into the fresh archive.
 fresh-insert : (b : Book) (t : Trial) → inserted (fresh-archive b) t ≡ fresh-archive (entered t b)
-unfolding entered shape-of-book sorted
+unfolding entered shape-of-book in-order
 fresh-insert b t = ap (λ a. inserted a t) (fresh-is b) ∙ counted-insert (shape-of-book b) (sorted (b .trials)) t ∙ sym (fresh-is (entered t b))
 
 module _ (s : Shape) (rest w : List ℕ) (b : Book) (h : Holds s rest b w) where

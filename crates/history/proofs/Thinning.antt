@@ -23,7 +23,8 @@ use Rattle.calls.proofs.Drops.{leaving, drop-keeps}
 use Rattle.history.specs.Book.{Book, counted-contribution, rather, at-a-tie, least-of, least-trial, struck, struck-out, book-note, thinned, book-notes}
 use Rattle.history.specs.History.{sorted, shape-of-book, fresh-archive}
 use Rattle.history.proofs.Fronts.{book-front-is}
-use Rattle.history.proofs.Sorting.{sorted-length, sorted-distinct, sorted-cover, sorted-member, member-sorted, struck-trials, sorted-struck}
+use Rattle.calls.proofs.InOrder.{in-order-length, in-order-distinct, in-order-cover, in-order-member, member-in-order}
+use Rattle.history.proofs.Sorting.{struck-trials, sorted-struck}
 
 -- A trial of the book as a record, with its contribution as the book counts it.
 unfoldable pub book-row : Book → Trial → Row
@@ -79,7 +80,7 @@ pub fresh-rows : (b : Book) → fresh-archive b .rows ≡ map (book-row b) (sort
 unfolding fresh-archive counted counted-row book-row counted-contribution shape-of-book points
 fresh-rows b =
     map-on _ (book-row b) (sorted (b .trials))
-    (λ t m. ap (λ k. record { trial = t; kept = k }) (contribution-same _ _ _ (point t) (sorted-cover (b .trials))))
+    (λ t m. ap (λ k. record { trial = t; kept = k }) (contribution-same _ _ _ (point t) (in-order-cover (b .trials))))
 
 -- The front that the book counts is that of the counted archive.
 pub fresh-is : (b : Book) → fresh-archive b ≡ counted (shape-of-book b) (sorted (b .trials))
@@ -92,7 +93,7 @@ pub fresh-counted : (b : Book) → IsCounted (fresh-archive b)
 fresh-counted b = rw (fresh-is b) (counted-is-counted (shape-of-book b) (sorted (b .trials)))
 
 pub fresh-count : (b : Book) → length (fresh-archive b .rows) ≡ length (b .trials)
-fresh-count b = rw (fresh-rows b, length-map (sorted (b .trials)) (book-row b)) (sorted-length (b .trials))
+fresh-count b = rw (fresh-rows b, length-map (sorted (b .trials)) (book-row b)) (in-order-length (λ t. t) (b .trials))
 
 fresh-least : (rule : ℕ) (b : Book) → 0 < length (b .trials)
     → (least-row rule (fresh-archive b .rows) .kept ≡ counted-contribution b (least-trial rule b (b .trials))) × (leaving rule (fresh-archive b) ≡ least-trial rule b (b .trials) .number)
@@ -101,9 +102,9 @@ fresh-least rule b l =
     rw (fresh-rows b)
     (least-one rule _ (book-row b (least-trial rule b (b .trials)))
     (map (book-row b) (sorted (b .trials))) (map (book-row b) (b .trials))
-    (map-members (book-row b) _ _ (λ t. sorted-member t (b .trials)))
-    (map-members (book-row b) _ _ (λ t. member-sorted t (b .trials)))
-    (least-row-is rule (map (book-row b) (sorted (b .trials))) (omega (arith, length-map (sorted (b .trials)) (book-row b), sorted-length (b .trials))))
+    (map-members (book-row b) _ _ (λ t. in-order-member (λ t. t) t (b .trials)))
+    (map-members (book-row b) _ _ (λ t. member-in-order (λ t. t) t (b .trials)))
+    (least-row-is rule (map (book-row b) (sorted (b .trials))) (omega (arith, length-map (sorted (b .trials)) (book-row b), in-order-length (λ t. t) (b .trials))))
     (book-least rule b (b .trials) l))
 
 pub fresh-trials : (b : Book) → held-trials (fresh-archive b) ≡ sorted (b .trials)
@@ -118,7 +119,7 @@ fresh-remove b n s h =
     let apart : distinct (sorted (b .trials)) ≡ true = rw (← fresh-trials b) (s .apart) in
     let left : held-trials (without (fresh-archive b) n) ≡ sorted (struck-out n (b .trials)) =
     struck-trials n (fresh-archive b .rows) ∙ ap (struck-out n) (fresh-trials b)
-    ∙ sym (sorted-struck n (b .trials) (sym (sorted-distinct (b .trials)) ∙ apart)) in
+    ∙ sym (sorted-struck n (b .trials) (sym (in-order-distinct (b .trials)) ∙ apart)) in
     ap (λ a. removed a n) (fresh-is b) ∙ counted-remove (shape-of-book b) (sorted (b .trials)) n (rw (← fresh-trials b) h) apart
     ∙ ap (counted (shape-of-book b)) left
     ∙ sym (fresh-is (struck n b))

@@ -6,7 +6,7 @@ use mathlib.Core.List.{List, _∷_, _++_, []}
 use lib.ListN.{length, take, drop}
 use Rattle.words.specs.Archive.{Trial, Shape, Archive}
 use Rattle.words.specs.Layout.{layout, extent}
-use Rattle.calls.specs.Calls.{place}
+use Rattle.calls.specs.Calls.{in-order}
 use Rattle.calls.specs.Counted.{counted}
 use Rattle.calls.specs.Lent
 use Rattle.calls.specs.Lent.{Outcome}
@@ -80,9 +80,8 @@ book-answers size (c ∷ calls) b =
     expected c (book-turn (request size c) b .reply) ∷ book-answers size calls (book-turn (request size c) b .book)
 
 -- The trials in the archive's order.
-unfoldable pub sorted : List Trial → List Trial
-sorted [] = []
-sorted (t ∷ ts) = place (λ u. u) t (sorted ts)
+abbrev pub sorted : List Trial → List Trial
+sorted ts = in-order (λ t. t) ts
 
 unfoldable pub shape-of-book : Book → Shape
 shape-of-book b = record { capacity = b .capacity; rx = b .rx; ry = b .ry; rz = b .rz }

@@ -13,7 +13,7 @@ use Rattle.slices.proofs.Choices.{either-turn, not-both, both-true, neither}
 use Rattle.hypervolume.specs.Cells.{holds, dominates}
 use Rattle.hypervolume.specs.Front.{smaller-somewhere, beats, beaten, unbeaten, front, FrontLaws}
 use Rattle.hypervolume.proofs.Tests.{not-leb, by-order, holds-le-one}
-use Rattle.hypervolume.proofs.Axes.{swap-at, dominates-swap}
+use Rattle.hypervolume.proofs.Axes.{swapped, Swaps, dominates-swaps}
 
 -- Smaller somewhere: the other is not at most equal on all axes.
 pub smaller-not : (p q : List ℕ) → smaller-somewhere p q ≡ not (dominates q p)
@@ -147,26 +147,26 @@ pub front-laws : FrontLaws
 unfolding front unbeaten
 front-laws = record { order = front-moved; at-most = λ trials. unbeaten-few trials trials; none = refl; some = front-some }
 
--- Two adjacent axes swapped in every trial: the same are beaten.
-pub beats-swap : (k : ℕ) (p q : List ℕ) → k + 2 ≤ length p → k + 2 ≤ length q → beats (swap-at k p) (swap-at k q) ≡ beats p q
+-- Axes swapped in every trial: the same are beaten.
+pub beats-swaps : (ks p q : List ℕ) → Swaps (length p) ks → Swaps (length q) ks → beats (swapped ks p) (swapped ks q) ≡ beats p q
 unfolding beats
-beats-swap k p q a b =
-    rw (smaller-not (swap-at k p) (swap-at k q), smaller-not p q, dominates-swap k p q b, dominates-swap k q p a)
+beats-swaps ks p q a b =
+    rw (smaller-not (swapped ks p) (swapped ks q), smaller-not p q, dominates-swaps ks p q b, dominates-swaps ks q p a)
 
-beaten-swap : (k : ℕ) (trials : List (List ℕ)) (q : List ℕ) → ((p : List ℕ) → List·Memᴰ p trials → k + 2 ≤ length p) → k + 2 ≤ length q
-    → beaten (map (swap-at k) trials) (swap-at k q) ≡ beaten trials q
+beaten-swaps : (ks : List ℕ) (trials : List (List ℕ)) (q : List ℕ) → ((p : List ℕ) → List·Memᴰ p trials → Swaps (length p) ks) → Swaps (length q) ks
+    → beaten (map (swapped ks) trials) (swapped ks q) ≡ beaten trials q
 unfolding beaten
-beaten-swap k [] q h l = refl
-beaten-swap k (p ∷ trials) q h l =
-    rw (beats-swap k p q (h p (List·Memᴰ·head refl)) l, beaten-swap k trials q (λ r m. h r (List·Memᴰ·tail m)) l)
+beaten-swaps ks [] q h l = refl
+beaten-swaps ks (p ∷ trials) q h l =
+    rw (beats-swaps ks p q (h p (List·Memᴰ·head refl)) l, beaten-swaps ks trials q (λ r m. h r (List·Memᴰ·tail m)) l)
 
-unbeaten-swap : (k : ℕ) (trials ps : List (List ℕ)) → ((p : List ℕ) → List·Memᴰ p trials → k + 2 ≤ length p) → ((p : List ℕ) → List·Memᴰ p ps → k + 2 ≤ length p)
-    → unbeaten (map (swap-at k) trials) (map (swap-at k) ps) ≡ unbeaten trials ps
+unbeaten-swaps : (ks : List ℕ) (trials ps : List (List ℕ)) → ((p : List ℕ) → List·Memᴰ p trials → Swaps (length p) ks) → ((p : List ℕ) → List·Memᴰ p ps → Swaps (length p) ks)
+    → unbeaten (map (swapped ks) trials) (map (swapped ks) ps) ≡ unbeaten trials ps
 unfolding unbeaten
-unbeaten-swap k trials [] h l = refl
-unbeaten-swap k trials (p ∷ ps) h l =
-    rw (beaten-swap k trials p h (l p (List·Memᴰ·head refl)), unbeaten-swap k trials ps h (λ q m. l q (List·Memᴰ·tail m)))
+unbeaten-swaps ks trials [] h l = refl
+unbeaten-swaps ks trials (p ∷ ps) h l =
+    rw (beaten-swaps ks trials p h (l p (List·Memᴰ·head refl)), unbeaten-swaps ks trials ps h (λ q m. l q (List·Memᴰ·tail m)))
 
-pub front-swap : (k : ℕ) (trials : List (List ℕ)) → ((p : List ℕ) → List·Memᴰ p trials → k + 2 ≤ length p) → front (map (swap-at k) trials) ≡ front trials
+pub front-swaps : (ks : List ℕ) (trials : List (List ℕ)) → ((p : List ℕ) → List·Memᴰ p trials → Swaps (length p) ks) → front (map (swapped ks) trials) ≡ front trials
 unfolding front
-front-swap k trials h = unbeaten-swap k trials trials h h
+front-swaps ks trials h = unbeaten-swaps ks trials trials h h

@@ -30,6 +30,12 @@ either-assoc true t u = refl
 either-assoc false t u = refl
 
 -- Three tests, two of them in turn.
+pub both-turn : (s t u : Bool) → both s (both t u) ≡ both t (both s u)
+unfolding both
+both-turn true t u = refl
+both-turn false true u = refl
+both-turn false false u = refl
+
 pub either-turn : (s t u : Bool) → either s (either t u) ≡ either t (either s u)
 unfolding either
 either-turn true true u = refl

@@ -1,6 +1,6 @@
--- Words from 8 + 5 × capacity on are neither read nor written: the proof, by three forms of calls. A question answers by
--- its rows and the archive that it reads; insert, remove and reduce write a new archive besides; start and loading go by
--- the capacity given.
+-- Words from 8 + 5 × capacity on are neither read nor written: the proof, by forms of calls. A question answers by
+-- its rows and the archive that it reads; insert, remove and reduce write a new archive besides; a rearranging writes another
+-- slice; start and loading go by the capacity given.
 use Prim.Native.Nat.{ℕ, zero, suc, _+_, _-_, _*_, _%_, _≤_, min}
 use mathlib.Core.Path.{_≡_, refl, sym, ap, _∙_}
 use mathlib.Core.Bool.{Bool, true, false, not}
@@ -32,6 +32,8 @@ use Rattle.calls.proofs.Counted.{audited-counted}
 use Rattle.calls.proofs.Grid.{grid-passes, filled-fair}
 use Rattle.calls.proofs.Sound.{insert-passed, remove-passed, inserted-sound, removed-sound}
 use Rattle.calls.proofs.Drops.{drops-down}
+use Rattle.axes.specs.Rearranging
+use Rattle.axes.specs.Rearranging.{rearranged-archive, rearrange-rows}
 use Rattle.card.specs.Card
 use Rattle.card.specs.Card.{shape-on, lines}
 use Rattle.card.specs.Verdict.{judge, answer-of}
@@ -202,6 +204,44 @@ grid-behind g w = go (grid-rows w g) refl
     go zero e = drop-at (layout (filled (read w) (grid-trials g) .archive)) (behind w) (extent (word w 1)) (grid-fits (grid-trials g) (read w) (passed w (grid-passes w g e) .sound))
     go (suc row) e = refl
 
+-- Rearranging: it leaves the archive's words, and what it leaves besides comes of the archive that is read.
+stays-alike : (v w second : List ℕ) (k : ℕ) (noted : List ℕ) (e : ℕ) → take e v ≡ take e w → LeftAlike e (leaves v second k 0 v noted) (leaves w second k 0 w noted)
+unfolding leaves written
+stays-alike v w second zero noted e same = record { answer = refl; words = same; log = refl }
+stays-alike v w second (suc k) noted e same = record { answer = refl; words = same; log = refl }
+
+capacity-held : (w b : List ℕ) (a : Archive) → w ≡ layout a ++ b → word w 1 ≡ a .shape .capacity
+unfolding read read-shape
+capacity-held w b a e = ap (λ q. q .shape .capacity) (reads w b a e)
+
+rearrange-held : (order : ℕ) (second w b : List ℕ) (a : Archive) → w ≡ layout a ++ b → Sound a
+    → Rearranging.rearrange w order second
+    ≡ leaves w second (guard (ltb 5 order) 22 (guard (not (audited a)) 13 (guard (ltb (length second) (extent (a .shape .capacity))) 1 0))) 0 w (layout (rearranged-archive order a))
+unfolding Rearranging.rearrange rearrange-rows
+rearrange-held order second w b a e s =
+    rw (capacity-held w b a e, reads w b a e)
+    (ap (λ k. leaves w second k 0 w (layout (rearranged-archive order a))) (passes w b a e s _))
+
+rearrange-alike : (order : ℕ) (second v w : List ℕ) → Alike (extent (word v 1)) v w
+    → LeftAlike (extent (word v 1)) (Rearranging.rearrange v order second) (Rearranging.rearrange w order second)
+rearrange-alike order second v w h = go (seen v w h)
+  where
+    go : Seen v w → LeftAlike (extent (word v 1)) (Rearranging.rearrange v order second) (Rearranging.rearrange w order second)
+    go (turned-down n e f) =
+        unfold Rearranging.rearrange rearrange-rows in
+        rw (refused-row v n _ e, refused-row w n _ f) (refusals-alike v w second n _ _ _ _ _ _ (extent (word v 1)) (h .same))
+    go (held a b c s e f) =
+        rw (rearrange-held order second v b a e s, rearrange-held order second w c a f s)
+        (stays-alike v w second _ (layout (rearranged-archive order a)) (extent (word v 1)) (h .same))
+
+rearrange-behind : (order : ℕ) (second w : List ℕ) → Rearranging.rearrange w order second .words ≡ w
+unfolding Rearranging.rearrange leaves
+rearrange-behind order second w = go (rearrange-rows w order (length second))
+  where
+    go : (k : ℕ) → leaves w second k 0 w (layout (rearranged-archive order (read w))) .words ≡ w
+    go zero = refl
+    go (suc k) = refl
+
 -- Start: its earlier contents don't matter, and both slices are long enough.
 empty-fits : (s : Shape) → length (layout (empty s)) ≡ extent (s .capacity)
 unfolding empty
@@ -314,6 +354,8 @@ long-alike (ArchiveCall.report out) v w h =
 long-alike (ArchiveCall.write-card out) v w h =
     let same = texts-alike 33 card-text out v w h in
     record { answer = ap as-numbers (same .0); words = h .same; other = same .1 }
+long-alike (ArchiveCall.rearrange order second) v w h =
+    outcomes-alike _ v w _ _ refl refl (rearrange-alike order second v w h)
 
 -- Slices that agree are both long enough, or are equal.
 not-read : (c : ArchiveCall) (v w : List ℕ) → take (reach c v) v ≡ take (reach c v) w → DoneAlike c v w
@@ -345,6 +387,7 @@ not-written ArchiveCall.audit w = refl
 not-written (ArchiveCall.load card) w = load-behind w card
 not-written (ArchiveCall.report out) w = refl
 not-written (ArchiveCall.write-card out) w = refl
+not-written (ArchiveCall.rearrange order second) w = ap (drop (extent (word w 1))) (rearrange-behind order second w)
 
 -- "Words from 8 + 5 × capacity on are neither read nor written."
 pub words-behind : WordsBehind

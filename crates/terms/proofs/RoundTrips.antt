@@ -21,9 +21,9 @@ use Rattle.text.proofs.Lines.{Fitting, length-line-of, line-line-of, line-of-li
 use Rattle.words.specs.Archive.{Trial, Row, Shape, Archive, trials, ascends, before}
 use Rattle.words.specs.Layout.{word, extent, layout, read, read-shape}
 use Rattle.words.specs.Format.{guard, number-allowed, coordinates-allowed, held, distinct, archive-rows}
-use Rattle.words.proofs.Reading.{read-layout, length-layout}
-use Rattle.words.proofs.Passed.{within-bounds, bounds-within, passed, passed-both, Sound, shape-bounds, coordinates-small}
-use Rattle.calls.specs.Calls.{held-trials, place, empty, inserted, admission-rows}
+use Rattle.words.proofs.Reading.{read-layout}
+use Rattle.words.proofs.Passed.{within-bounds, bounds-within, passed, passed-both, Sound, shape-bounds, coordinates-small, passed-front}
+use Rattle.calls.specs.Calls.{held-trials, place, in-order, empty, inserted, admission-rows}
 use Rattle.calls.specs.Counted.{counted}
 use Rattle.calls.specs.Lent.{answer, start-rows, audit}
 use Rattle.calls.proofs.Known.{count-rows}
@@ -86,7 +86,7 @@ all-before (d ∷ done) t left h u m = go (all-before done t left (h .1) u) (Lis
 
 -- Trials entered in the archive's order stay in it.
 entered-sorted : (b : Book) (t : Trial) → sorted (entered t b .trials) ≡ place (λ u. u) t (sorted (b .trials))
-unfolding entered sorted
+unfolding entered in-order
 entered-sorted b t = refl
 
 entered-in-order : (ts : List Trial) (b : Book) → AscendingTrials (sorted (b .trials) ++ ts)
@@ -101,7 +101,7 @@ entered-in-order (t ∷ ts) b h =
     entered-in-order ts (entered t b) (rw again h) ∙ again
 
 book-in-order : (card : List ℕ) → in-archive-order card ≡ true → sorted (card-book card .trials) ≡ card-trials card
-unfolding in-archive-order card-book opened sorted
+unfolding in-archive-order card-book opened in-order
 book-in-order card e = entered-in-order (card-trials card) (opened-by (card-shape card)) (ordered-ascending (card-trials card) e)
 
 -- What an accepted card leaves: the archive of its trials in order, and the words behind.
@@ -369,10 +369,8 @@ restores : (w out slice : List ℕ) → write w out .refusal ≡ 0 → audit w �
 unfolding read read-shape
 restores w out slice e said long =
     let p = passed w (done w out e .passes) in
-    let size : length (layout (read w)) ≡ extent (word w 1) = length-layout (read w) (p .sound .held-within) in
-    let front : take (extent (word w 1)) w ≡ layout (read w) = ap (take (extent (word w 1))) (p .laid) ∙ take-at (layout (read w)) _ _ size in
     let is : read w ≡ counted (read w .shape) (trials (read w .rows)) = is-counted (read w) (audited-counted (read w) (says-yes w said .yes)) in
-    rw (front, is) (recounts w out slice e long)
+    rw (passed-front w p, is) (recounts w out slice e long)
 
 -- Writing a loaded card.
 same-bytes : (card slice out : List ℕ) → load slice card .answer .refusal ≡ 0 → write (load slice card .words) out .refusal ≡ 0
@@ -391,8 +389,8 @@ same-bytes card slice out e f = (forth, back)
     back : in-archive-order card ≡ true → card-left (load slice card .words) out ≡ card
     back order = is ∙ ap (λ ts. card-text (counted (card-shape card) ts)) (book-in-order card order) ∙ card-whole slice card e
 
-in-order : (w out : List ℕ) → write w out .refusal ≡ 0 → in-archive-order (card-left w out) ≡ true
-in-order w out e =
+written-in-order : (w out : List ℕ) → write w out .refusal ≡ 0 → in-archive-order (card-left w out) ≡ true
+written-in-order w out e =
     let d = done w out e in
     rw (d .card) (text-in-order (read w) (passed w (d .passes) .sound))
 
@@ -408,4 +406,4 @@ tells-all v w p q e =
 
 pub round-trips : RoundTrips
 round-trips =
-    record { restores = restores; recounts = recounts; checks = checks; same-bytes = same-bytes; in-order = in-order; tells-all = tells-all }
+    record { restores = restores; recounts = recounts; checks = checks; same-bytes = same-bytes; in-order = written-in-order; tells-all = tells-all }

@@ -6,14 +6,13 @@ use mathlib.Core.Bool.{Bool, true, false, not}
 use mathlib.Core.List.{List, _++_}
 use native.Mathlib.Omega.{arith}
 use lib.ListN.{length, getD, take, drop, take-append-drop}
-use lib.Seq.{getD-take, take-at}
+use lib.Seq.{getD-take}
 use borrow.Author.Tests.{le-ltb}
 use Rattle.words.specs.Archive.{Archive}
 use Rattle.words.specs.Layout.{extent, layout, word, read-shape, read}
 use Rattle.words.specs.Format.{guard, header-allowed, records-allowed, archive-rows}
 use Rattle.words.specs.Places.{Headed}
-use Rattle.words.proofs.Reading.{length-layout}
-use Rattle.words.proofs.Passed.{Sound, passed, row-3-decides}
+use Rattle.words.proofs.Passed.{Sound, passed, passed-front, row-3-decides}
 
 -- Two slices that agree before a place, and are both that long.
 pub record Alike (place : ℕ) (v w : List ℕ) : Type 0 where
@@ -56,10 +55,7 @@ alike-header v w h =
 alike-held : (v w : List ℕ) → Alike (extent (word v 1)) v w → archive-rows v 0 ≡ 0 → w ≡ layout (read v) ++ drop (extent (word v 1)) w
 unfolding read read-shape
 alike-held v w h e =
-    let p = passed v e in
-    let front : take (extent (word v 1)) v ≡ layout (read v) =
-    ap (take (extent (word v 1))) (p .laid) ∙ take-at (layout (read v)) _ (extent (word v 1)) (length-layout (read v) (p .sound .held-within)) in
-    sym (take-append-drop (extent (word v 1)) w) ∙ ap (λ k. k ++ drop (extent (word v 1)) w) (sym (h .same) ∙ front)
+    sym (take-append-drop (extent (word v 1)) w) ∙ ap (λ k. k ++ drop (extent (word v 1)) w) (sym (h .same) ∙ passed-front v (passed v e))
 
 -- Rows 2 and 3, by the tests that they make.
 row-2-given : (w : List ℕ) → 8 ≤ length w → header-allowed w ≡ false → archive-rows w 0 ≡ 2

@@ -12,6 +12,7 @@ use Rattle.calls.specs.Lent
 use Rattle.calls.specs.Lent.{Outcome}
 use Rattle.calls.specs.Grid
 use Rattle.calls.specs.Replacement
+use Rattle.axes.specs.Rearranging
 use Rattle.card.specs.Card
 use Rattle.reports.specs.Report
 use Rattle.reports.specs.Report.{reported}
@@ -34,9 +35,10 @@ pub data ArchiveCall : Type 0 where
   load : (card : List ℕ) → ArchiveCall
   report : (out : List ℕ) → ArchiveCall
   write-card : (out : List ℕ) → ArchiveCall
+  rearrange : (order : ℕ) (second : List ℕ) → ArchiveCall
 
--- All that comes of a call: what it answers, the refusal number first; the archive slice after it; and the log or the
--- output after it.
+-- All that comes of a call: what it answers, the refusal number first; the archive slice after it; and the log, the output or
+-- the second slice after it.
 pub record Result : Type 0 where
   pub answer : List ℕ
   pub words : List ℕ
@@ -102,6 +104,7 @@ result (write-card out) w =
       words = w;
       other = Written.written w out;
     }
+result (rearrange order second) w = written (Rearranging.rearrange w order second)
 
 -- The capacity that a call goes by: word 1; for start and the card reader "the capacity given".
 unfoldable pub capacity-for : ArchiveCall → List ℕ → ℕ
@@ -119,12 +122,13 @@ capacity-for audit w = word w 1
 capacity-for (load card) w = card-shape card .capacity
 capacity-for (report out) w = word w 1
 capacity-for (write-card out) w = word w 1
+capacity-for (rearrange order second) w = word w 1
 
 -- Where the words behind begin.
 unfoldable pub reach : ArchiveCall → List ℕ → ℕ
 reach c w = 8 + 5 * capacity-for c w
 
--- The call does the same to both: its answer, its log or output, and the words before 8 + 5 × capacity.
+-- The call does the same to both: its answer, its log, output or second slice, and the words before 8 + 5 × capacity.
 pub record DoneAlike (c : ArchiveCall) (v w : List ℕ) : Type 0 where
   pub answer : result c v .answer ≡ result c w .answer
   pub words : take (reach c v) (result c v .words) ≡ take (reach c v) (result c w .words)

@@ -9,6 +9,7 @@ use volume::Corner;
 use volume::VolumeAnswer;
 ghost use mathlib.Core.List.{_∷_, []};
 ghost use mathlib.Core.Path.{_≡_};
+ghost use Rattle.axes.specs.Rearranging.{rearrange};
 ghost use Rattle.calls.specs.Lent.{start, insert, remove, least, reduce, joint, gain-answer, share, audit, trial-of, shape-of, MeetsOutcome};
 ghost use Rattle.calls.specs.Grid.{insert-grid};
 ghost use Rattle.calls.specs.Replacement.{replace-effect};
@@ -143,4 +144,11 @@ pub extern "C" fn ta_count4(
     ensures { λ r. ⌜ (r ≡ count4 (rx ∷ ry ∷ rz ∷ rw ∷ []) (now (coords .entry)) (now (out .entry))) × (now (out .exit) ≡ counted4 (rx ∷ ry ∷ rz ∷ rw ∷ []) (now (coords .entry)) (now (out .entry))) ⌝ }
 {
     four::count4(rx, ry, rz, rw, coords, out)
+}
+
+#[no_mangle]
+pub extern "C" fn ta_rearrange(words: &[u64], order: u64, second: &mut [u64]) -> u64
+    ensures { λ r. ⌜ (r ≡ rearrange (now (words .entry)) order (now (second .entry)) .refusal) × (now (words .exit) ≡ rearrange (now (words .entry)) order (now (second .entry)) .words) × (now (second .exit) ≡ rearrange (now (words .entry)) order (now (second .entry)) .log) ⌝ }
+{
+    axes::rearrange(words, order, second)
 }

@@ -293,6 +293,12 @@ pub passes-again : (w : List ℕ) (rest : ℕ) → Passed w → archive-rows w r
 passes-again w rest p =
     ap (λ l. archive-rows l rest) (p .laid) ∙ sound-passes (read w) (behind w) rest (p .sound)
 
+-- The words before 8 + 5 × capacity are the layout.
+pub passed-front : (w : List ℕ) → Passed w → take (extent (word w 1)) w ≡ layout (read w)
+unfolding read read-shape
+passed-front w p =
+    ap (take (extent (word w 1))) (p .laid) ∙ take-at (layout (read w)) (behind w) (extent (word w 1)) (length-layout (read w) (p .sound .held-within))
+
 -- Words that rows 1 to 3 turn down are turned down by the same row, whatever rows a call adds.
 pub still-refused : (w : List ℕ) (rest : ℕ) → (archive-rows w 0 ≡ 0 → ⊥) → archive-rows w rest ≡ archive-rows w 0
 unfolding archive-rows guard

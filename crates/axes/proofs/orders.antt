@@ -1,0 +1,2 @@
+-- Laws for the functions of src/orders.rt.
+pub mod Entries

@@ -1,0 +1,2 @@
+-- Laws for the functions of src/rearranging.rt.
+pub mod Storing
