@@ -6,15 +6,15 @@ use native.Mathlib.Nat.{mul-le-mul-left}
 use native.Mathlib.Omega.{arith}
 use lib.ListN.{length, take, drop, set, replicate, length-append, length-take, length-replicate}
 use Rattle.slices.specs.Put.{put}
+use Rattle.slices.proofs.Put.{put-front}
 use Rattle.text.specs.Lines.{newline}
 use Rattle.text.specs.Justified.{justified}
 use Rattle.text.proofs.Justified.{length-justified}
 use Rattle.words.specs.Archive.{Archive}
 use Rattle.words.specs.Layout.{word, extent, read}
 use Rattle.words.proofs.Reading.{read-layout}
-use Rattle.words.specs.Format.{archive-rows}
 use Rattle.calls.specs.declared.Answer.{Answer}
-use Rattle.calls.proofs.Known.{count-rows, known}
+use Rattle.calls.proofs.Known.{known}
 use Rattle.card.specs.declared.Loaded.{Loaded}
 use Rattle.card.specs.Card.{lines, Loading, load, ReadInto}
 use Rattle.card.specs.Verdict.{Verdict, refusal, archive, judge, answer-of, words-of, carried-out}
@@ -24,8 +24,9 @@ use Rattle.card.proofs.Theorems as cards
 use Rattle.card.proofs.Theorems.{not-zero, cards-load}
 use Rattle.printing.specs.Printed.{refusal-line, shown, loaded, printed, PrintRoom, PrintsRead, Printing}
 use Rattle.printing.specs.Forms.{text-of}
+use Rattle.printing.specs.Cards.{LoadRoom, Holds, LoadsRead}
 use Rattle.printing.proofs.Laid.{Laid, laid-column, laid-byte}
-use Rattle.printing.proofs.Texts.{Told, text-done, length-text}
+use Rattle.printing.proofs.Texts.{Told, text-done}
 
 length-refusal-line : (n line : ℕ) → length (refusal-line n line) ≡ 17
 unfolding refusal-line
@@ -60,18 +61,20 @@ module _ (text : Archive → List ℕ) where
   shown-refused zero l other = absurd (other refl)
   shown-refused (suc k) l other = refl
 
-  -- Of a card that is longer than the input, the part read decides. The part of the output that is written out:
-  prints-read : (input : List ℕ) (read : ℕ) (out bytes : List ℕ) {after : List ℕ} (k : ℕ) → 33 * 514 ≤ length input
-      → printed text (take read input) ≡ bytes → after ≡ put out 0 bytes → length bytes ≡ k → k ≤ length out → length after ≡ length out
-      → PrintsRead text input read out k after
-  prints-read input read out bytes {after} k room e whole long fits same =
-      let within : k ≤ length after = omega arith in
+  -- Of a card that is longer than the input, the part read decides.
+  part-decides : (input : List ℕ) (k : ℕ) {bytes : List ℕ} → 33 * 514 ≤ length input → printed text (take k input) ≡ bytes
+      → (card : List ℕ) → take (length input) card ≡ take k input → printed text card ≡ bytes
+  part-decides input k room e card begins = sym (enough-read card (length input) room) ∙ ap (printed text) begins ∙ e
+
+  -- The part of the output that is written out.
+  prints-read : (input : List ℕ) (read : ℕ) (out bytes : List ℕ) {after : List ℕ} (k : ℕ)
+      → ((card : List ℕ) → take (length input) card ≡ take read input → printed text card ≡ bytes)
+      → after ≡ put out 0 bytes → k ≡ length bytes → PrintsRead text input read out k after
+  prints-read input read out bytes {after} k all whole long =
+      let within : k ≤ length after = omega (arith, ap length (whole ∙ put-front out bytes), length-append bytes (drop (length bytes) out)) in
       let part : k ≡ length (take k after) = omega (arith, length-take k after) in
       record {
-        whole = λ card begins.
-            let all : printed text card ≡ bytes =
-            sym (enough-read card (length input) room) ∙ ap (printed text) begins ∙ e in
-            record { text-put = rw all whole; long = rw all (sym long); within = within; part = part };
+        whole = λ card begins. record { text-put = rw (all card begins) whole; long = rw (all card begins) long; within = within; part = part };
         within = within;
         part = part;
       }
@@ -98,33 +101,51 @@ module _ (text : Archive → List ℕ) where
     unfolding shown
     shown-text none = printed-by ∙ ap (λ k. shown text k (load p card)) none ∙ ap (λ w. text (read w)) (sym (into .words none))
 
-    passing : r .refusal ≡ 0 → archive-rows after 0 ≡ 0
-    passing none = rw (into .words none) (cards-load p card .accepted (ap (λ x. x .refusal) (sym (into .answer)) ∙ none) .passes)
+-- The two ends of a loading: the line of a refused card, and the words of an accepted one.
+module _ {input : List ℕ} {read-bytes : ℕ} {p out : List ℕ} (room : LoadRoom input read-bytes p out) {r : Loaded} {words : List ℕ}
+    (into : ReadInto (load p (take read-bytes input)) r words) where
+  pub load-refused : {after : List ℕ} → (r .refusal ≡ 0 → ⊥) → after ≡ put out 0 (refusal-line (r .refusal) (r .line))
+      → LoadsRead input read-bytes out 17 words after
+  load-refused other e =
+      record {
+        accepted = λ none. absurd (let no : ⊥ = omega arith in no);
+        refused = λ _ text.
+            prints-read text input read-bytes out _ 17 (part-decides text input read-bytes (room .lines) (shown-line text p _ (room .enough) into other))
+            e (sym (length-refusal-line (r .refusal) (r .line)));
+      }
 
--- The two ends of a program's run: the line of a refused card, and the text of an accepted one.
-module _ (first wide : ℕ) (input : List ℕ) (read-bytes : ℕ) (out p : List ℕ) (room : PrintRoom (33 + wide) input read-bytes out)
-    (sized : length p ≡ 2568) {r : Loaded} {after : List ℕ} (into : ReadInto (load p (take read-bytes input)) r after) where
-  pub print-refused : {out′ : List ℕ} → (r .refusal ≡ 0 → ⊥) → length out′ ≡ length out
-      → out′ ≡ put out 0 (refusal-line (r .refusal) (r .line)) → PrintsRead (text-of first wide) input read-bytes out 17 out′
-  print-refused other same e =
-      let space : (33 + wide) * 513 ≤ length out = room .text in
-      prints-read (text-of first wide) input read-bytes out (refusal-line (r .refusal) (r .line)) 17 (room .lines)
-      (shown-line (text-of first wide) p _ sized into other) e (length-refusal-line (r .refusal) (r .line)) (omega arith) same
+  pub load-accepted : r .refusal ≡ 0 → LoadsRead input read-bytes out 0 words out
+  load-accepted none =
+      record {
+        accepted = λ _. (
+          record {
+            passes = rw (into .words none) (cards-load p (take read-bytes input) .accepted (ap (λ x. x .refusal) (sym (into .answer)) ∙ none) .passes);
+            prints = λ text. part-decides text input read-bytes (room .lines) (shown-text text p _ (room .enough) into none);
+          },
+          refl,
+        );
+        refused = λ some. absurd (some refl);
+      }
 
-  pub print-text : {a : Answer} {out′ : List ℕ} → r .refusal ≡ 0 → length out′ ≡ length out → Told first wide after out a out′
-      → PrintsRead (text-of first wide) input read-bytes out (a .value) out′
-  print-text {a} {out′} none same told =
-      let h : archive-rows after 0 ≡ 0 = passing (text-of first wide) p _ sized into none in
-      let few : word after 0 ≤ 512 = known after h .few in
-      let space : (33 + wide) * 513 ≤ length out = room .text in
-      let most : (33 + wide) * (word after 0 + 1) ≤ (33 + wide) * 513 = mul-le-mul-left (33 + wide) (omega arith) in
-      let enough : (33 + wide) * (word after 0 + 1) ≤ length out = omega arith in
-      let done = text-done first wide after out h enough in
-      let value : a .value ≡ length (text-of first wide (read after)) = ap (λ x. x .value) (told .0 ∙ sym (done .0)) in
-      let long : length (text-of first wide (read after)) ≡ (33 + wide) * (word after 0 + 1) =
-      length-text first wide (read after) ∙ ap (λ n. (33 + wide) * (n + 1)) (count-rows after) in
-      prints-read (text-of first wide) input read-bytes out (text-of first wide (read after)) (a .value) (room .lines)
-      (shown-text (text-of first wide) p _ sized into none) (told .1 ∙ sym (done .1)) (sym value) (omega arith) same
+-- A program's text, written behind a loading that accepted the card.
+pub print-text : (text : Archive → List ℕ) {input : List ℕ} {read-bytes : ℕ} {out : List ℕ} {r : ℕ} {words out₁ after : List ℕ} (k : ℕ)
+    → LoadsRead input read-bytes out r words out₁ → r ≡ 0 → after ≡ put out₁ 0 (text (read words)) → k ≡ length (text (read words))
+    → PrintsRead text input read-bytes out k after
+print-text text {input} {read-bytes} {out} k loads none whole long =
+    let accepted = loads .accepted none in
+    prints-read text input read-bytes out _ k (accepted .0 .prints text) (rw (accepted .1) at whole) long
+
+-- The same in one of the two forms.
+pub print-form : (first wide : ℕ) {input : List ℕ} {read-bytes : ℕ} {out : List ℕ} {r : ℕ} {words out₁ after : List ℕ} {a : Answer}
+    → PrintRoom (33 + wide) input read-bytes out → LoadsRead input read-bytes out r words out₁ → r ≡ 0 → Told first wide words out₁ a after
+    → PrintsRead (text-of first wide) input read-bytes out (a .value) after
+print-form first wide {out = out} {words = words} {out₁ = out₁} {a = a} room loads none told =
+    let accepted = loads .accepted none in
+    let few : word words 0 ≤ 512 = known words (accepted .0 .passes) .few in
+    let space : (33 + wide) * 513 ≤ length out₁ = rw (accepted .1) (room .text) in
+    let most : (33 + wide) * (word words 0 + 1) ≤ (33 + wide) * 513 = mul-le-mul-left (33 + wide) (omega arith) in
+    let done = text-done first wide words out₁ (accepted .0 .passes) (omega arith) in
+    print-text (text-of first wide) (a .value) loads none (told .1 ∙ sym (done .1)) (ap (λ x. x .value) (told .0 ∙ sym (done .0)))
 
 pub printing : Printing
 printing = record { enough-read = enough-read }

@@ -1,6 +1,6 @@
 -- What a program prints that reads a card from standard input (document 01, "Card and report"): a text of the archive
--- that the card describes, or one line for a refused card. The report program prints the report, and write_card the card
--- (document 02, W-205).
+-- that the card describes, or one line for a refused card. The report program prints the report, write_card the card and
+-- six_reports six reports (document 02, W-205 and W-212).
 use Prim.Native.Nat.{ℕ, zero, suc, _*_, _≤_}
 use mathlib.Core.Path.{_≡_}
 use mathlib.Core.List.{List, _∷_, _++_, []}

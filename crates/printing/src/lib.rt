@@ -16,6 +16,7 @@ ghost use Rattle.words.specs.Places.{as-record};
 ghost use Rattle.calls.specs.Lent.{answer};
 ghost use Rattle.printing.specs.Texts.{lines-of, text-rows, output};
 ghost use Rattle.printing.specs.Printed.{refusal-line, PrintRoom, PrintsRead};
+ghost use Rattle.printing.specs.Cards.{LoadRoom, LoadsRead};
 ghost use Rattle.printing.specs.Forms.{text-row, text-of, LastColumn, TextForm, TextRoom};
 
 // Writes the last column, if there is one. Its width is written out: where the compiler knows how long the loop is, a report takes
@@ -93,18 +94,32 @@ fn put_refusal(out: &mut [u8], refusal: u64, line: u64)
     out[16] = b'\n';
 }
 
-// Writes the text of a card of any length, or the line of a refused card, and answers the length. `read` bytes of the card were
-// read to the front of the input: all of it, or as much as fills the input. Lines behind the 514th decide nothing, so room for
-// 514 lines of 33 bytes is enough. In a shorter input a line would be cut that decides.
+// Loads a card of any length into words that are enough for every capacity, or writes the line of a refused card. Answers how many
+// bytes were written, so 0 where the card is accepted. `read` bytes of it were read to the front of the input: all of it, or as much
+// as fills the input. Lines behind the 514th decide nothing, so room for 514 lines of 33 bytes is enough. In a shorter input a line
+// would be cut that decides.
+pub fn load_card(input: &[u8], read: usize, words: &mut [u64], out: &mut [u8]) -> usize
+    requires { ⌜ LoadRoom (now input) read (now words) (now out) ⌝ }
+    ensures { λ r. ⌜ LoadsRead (now (input .entry)) read (now (out .entry)) r (now (words .exit)) (now (out .exit)) ⌝ }
+{
+    let loaded = read_card(words, &input[..read]);
+    if loaded.refusal != 0 {
+        put_refusal(out, loaded.refusal, loaded.line);
+        return 17;
+    }
+    0
+}
+
+// Writes the text of a card of any length, of which `read` bytes were read to the front of the input, or the line of a refused card,
+// and answers the length.
 pub fn print(input: &[u8], read: usize, out: &mut [u8], first: usize, wide: usize) -> usize
     requires { ⌜ TextForm first wide × PrintRoom (33 + wide) (now input) read (now out) ⌝ }
     ensures { λ r. ⌜ PrintsRead (text-of first wide) (now (input .entry)) read (now (out .entry)) r (now (out .exit)) ⌝ }
 {
     let mut words = long_enough();
-    let loaded = read_card(&mut words, &input[..read]);
-    if loaded.refusal != 0 {
-        put_refusal(out, loaded.refusal, loaded.line);
-        return 17;
+    let refused = load_card(input, read, &mut words, out);
+    if refused != 0 {
+        return refused;
     }
     write_text(&words, out, first, wide).value as usize
 }
