@@ -1,5 +1,5 @@
 /*
- * Faults for the tests of the report program and of write_card. Loaded before
+ * Faults for the tests of report, write_card and six_reports. Loaded before
  * one of them (LD_PRELOAD), this library makes its reads of descriptor 0 and
  * its writes of descriptor 1 go wrong as the environment says:
  *

@@ -1,21 +1,22 @@
 #!/bin/sh
-# Runs the built programs report and write_card on cards, and where reading or writing goes wrong,
-# and compares every byte that they write.
+# Runs the built programs report, write_card and six_reports on cards, and where reading or writing
+# goes wrong, and compares every byte that they write.
 #
-#   bench/programs.sh REPORT WRITE_CARD      paths of the two programs
+#   bench/programs.sh REPORT WRITE_CARD SIX_REPORTS      paths of the three programs
 #
 # Prints what went wrong, and last 'N passed, M failed'. Ends with 1 where something failed, 2 for
 # bad usage. CC names the compiler (gcc), for the library that makes reads and writes go wrong.
 set -u
 
-if [ $# -ne 2 ] || [ ! -x "$1" ] || [ ! -x "$2" ]; then
-    echo "usage: $0 REPORT WRITE_CARD" >&2
+if [ $# -ne 3 ] || [ ! -x "$1" ] || [ ! -x "$2" ] || [ ! -x "$3" ]; then
+    echo "usage: $0 REPORT WRITE_CARD SIX_REPORTS" >&2
     exit 2
 fi
 # shellcheck source=bench/common.sh
 . "$(dirname "$0")/common.sh"
 report=$(absolute "$1")
 write_card=$(absolute "$2")
+six_reports=$(absolute "$3")
 # The system's words for an error are in English.
 export LC_ALL=C
 
@@ -56,12 +57,45 @@ refused() {
     echo "$work/refused-$1-$2"
 }
 
-# sorted CARD: the file with its line 1 and its trials in archive order. No field of an accepted card
-# fills its eight bytes, so spaces part them all.
+# sorted FILE: the file with line 1 of a card or a report, and its trials in archive order. No field of
+# an accepted card fills its eight bytes, so spaces part them all.
 sorted() {
     in_order=$work/sorted-$(basename "$1")
     (head -n 1 "$1" && tail -n +2 "$1" | sort -n -k 4,4 -k 3,3 -k 2,2 -k 1,1) >"$in_order"
     echo "$in_order"
+}
+
+# The six orders of the axes, 0 to 5, by the columns of a card or a report that come first, second and
+# third.
+orders='2,3,4 2,4,3 3,2,4 3,4,2 4,2,3 4,3,2'
+
+# rearranged COLUMNS FILE: the card or the report with these columns in the place of the second to
+# the fourth. Numbers are passed on as they stand: some are too large for awk.
+rearranged() {
+    awk -v columns="$1" 'BEGIN { split(columns, old, ",") } {
+        printf "%8s%8s%8s%8s", $1, $old[1], $old[2], $old[3]
+        if (NF > 4) printf "%20s", $5
+        printf "\n"
+    }' "$2"
+}
+
+# six_runs CARD: the file with six runs of report, on the card rearranged by each order.
+six_runs() {
+    runs=$work/six-runs-$(basename "$1")
+    for columns in $orders; do
+        rearranged "$columns" "$1" | "$report"
+    done >"$runs"
+    echo "$runs"
+}
+
+# six_of REPORT: the file with the report rearranged by each order, its lines sorted again. Nothing
+# is counted for it: the totals and contributions are those of the report.
+six_of() {
+    for columns in $orders; do
+        rearranged "$columns" "$1" >"$work/columns"
+        cat "$(sorted "$work/columns")"
+    done >"$work/six-of"
+    echo "$work/six-of"
 }
 
 # due CARD: the file with what the program has to write for this accepted card.
@@ -70,6 +104,7 @@ due() {
         report,"$here"/cards/*) echo "$here/reports/$(basename "$1" .card).report" ;;
         report,*) echo "${1%.card}.report" ;;
         write_card,*) sorted "$1" ;;
+        six_reports,*) six_runs "$1" ;;
     esac
 }
 
@@ -185,7 +220,7 @@ faults() {
     faulty "$card" "$text" "" FAULT_READ_INTERRUPTED=1
     faulty "$full" "$long" "" FAULT_READ_INTERRUPTED=3 FAULT_READ_AT_MOST=7
     faulty "$card" "$nothing" "$reading: Interrupted system call" FAULT_READ_INTERRUPTED=2000000
-    # Byte 99 ends a line of the card, and is within one of the report; 100 is within one of both.
+    # Byte 99 ends a line of the card, and is within one of a report; 100 is within one of both.
     length=$(wc -c <"$text")
     for bytes in 0 1 99 100 $((length - 1)); do
         head -c "$bytes" "$text" >"$work/part"
@@ -215,8 +250,9 @@ tests() {
     faults
 }
 
-# both CARD: the written card has the report of the card, and written again it does not change.
-both() {
+# agree CARD: the written card has the report of the card, written again it does not change, and its
+# six reports are that report in six orders.
+agree() {
     what="$(basename "$1"), written"
     "$report" <"$1" >"$work/own"
     "$write_card" <"$1" >"$work/written"
@@ -226,6 +262,9 @@ both() {
     called=write_card
     program=$write_card
     on "$what" "$work/written" "$(sorted "$1")"
+    called=six_reports
+    program=$six_reports
+    on "$what" "$work/written" "$(six_of "$work/own")"
 }
 
 nothing=$work/nothing
@@ -247,9 +286,11 @@ done
 check "faults.c compiles" c99 -O2 -shared -fPIC "$here/faults.c" -o "$work/faults.so"
 tests report "$report" report
 tests write_card "$write_card" card
-on "ties.card" "$work/ties.card" "$(sorted "$work/ties.card")"
+on "ties.card" "$work/ties.card" "$(due "$work/ties.card")"
+tests six_reports "$six_reports" reports
+on "ties.card" "$work/ties.card" "$(due "$work/ties.card")"
 for accepted in "$here"/../examples/*.card "$here"/cards/good-*.card "$work/ties.card"; do
-    both "$accepted"
+    agree "$accepted"
 done
 
 finish

@@ -1,0 +1,2 @@
+-- Laws of the six reports.
+pub mod Reports
