@@ -2,12 +2,13 @@
  * A caller of every call: document 01's card and report, its "Counts to meet",
  * shares at their ties, whole grids, replacements up to the largest, the front
  * and archives kept from before it, ties by both rules, cards written back and
- * loaded again, one meeting with each refusal, coordinates on both sides of
- * every limit, numbers as C passes them, volumes in doubles bit for bit and with
- * bad doubles at every place, counts on four axes against a count of every cell
- * and with bad numbers at every place, and what the header defines: the structs'
- * fields and the lengths. Lent memory stands between guards, and what a call only
- * reads is compared after it.
+ * loaded again, archives in the six orders of the axes and back, one meeting
+ * with each refusal, coordinates on both sides of every limit, numbers as C
+ * passes them, volumes in doubles bit for bit and with bad doubles at every
+ * place, counts on four axes against a count of every cell and with bad numbers
+ * at every place, and what the header defines: the structs' fields and the
+ * lengths. Lent memory stands between guards, and what a call only reads is
+ * compared after it.
  * Prints what went wrong, and at the end 'N passed, M failed'; ends with 1
  * where something failed.
  */
@@ -45,25 +46,35 @@ static const uint64_t MARK = 0x6d61726b6d61726bu;
 static uint64_t memory[GUARD + LENT + GUARD];
 static uint64_t *const words = memory + GUARD;
 
-static void fill(uint64_t *first, size_t count)
+static void fill_by(uint64_t mark, uint64_t *first, size_t count)
 {
     size_t i;
 
     for (i = 0; i < count; i++) {
-        first[i] = MARK;
+        first[i] = mark;
     }
 }
 
-static int is_filled(const uint64_t *first, size_t count)
+static int is_filled_by(uint64_t mark, const uint64_t *first, size_t count)
 {
     size_t i;
 
     for (i = 0; i < count; i++) {
-        if (first[i] != MARK) {
+        if (first[i] != mark) {
             return 0;
         }
     }
     return 1;
+}
+
+static void fill(uint64_t *first, size_t count)
+{
+    fill_by(MARK, first, count);
+}
+
+static int is_filled(const uint64_t *first, size_t count)
+{
+    return is_filled_by(MARK, first, count);
 }
 
 /* The guards, and the words behind the archive, as start filled them. */
@@ -244,6 +255,30 @@ static ta_answer reduce(uint64_t k, uint64_t rule, size_t log_len)
     answer = ta_reduce(words, LENT, k, rule, log_words, log_len);
     check_guards();
     return answer;
+}
+
+/* A second slice between guards, for an archive with its axes in another order.
+   Its mark is not the one that stands behind the archive. */
+static const uint64_t SECOND_MARK = 0x7365636f6e647320u;
+
+static uint64_t second_memory[GUARD + LENT + GUARD];
+static uint64_t *const second = second_memory + GUARD;
+
+/* Rearranges the first words, which are only read, into the first words of a
+   second slice that holds marks. Only its own words, or none, are written. */
+static uint64_t rearrange(size_t len, uint64_t order, size_t second_len)
+{
+    size_t written;
+    uint64_t refusal;
+
+    fill_by(SECOND_MARK, second_memory, LENGTH(second_memory));
+    remember(lent);
+    refusal = ta_rearrange(words, len, order, second, second_len);
+    check_untouched(lent);
+    written = refusal == TA_DONE ? WORDS : 0;
+    CHECK(is_filled_by(SECOND_MARK, second_memory, GUARD));
+    CHECK(is_filled_by(SECOND_MARK, second + written, LENT - written + GUARD));
+    return refusal;
 }
 
 /* Only the first words of the log, or none, are written. */
@@ -662,6 +697,7 @@ static void kept_from_before(void)
     CHECK(is_answer(reduce(2, TA_TIE_LOWEST, 4), TA_MISCOUNT, 0));
     CHECK(is_answer(reduce(4, TA_TIE_LOWEST, 0), TA_MISCOUNT, 0));
     check_log(0);
+    CHECK(rearrange(LENT, TA_ORDER_ZYX, LENT) == TA_MISCOUNT);
     CHECK(insert(1, 0, 0, 0) == TA_NUMBER_HELD);
     CHECK(remove_trial(5) == TA_NOT_HELD);
     check_untouched(before);
@@ -689,6 +725,7 @@ static void kept_from_before(void)
     words[TA_FRONT] = 0;
     CHECK(is_answer(audit(), TA_DONE, 1));
     CHECK(is_answer(reduce(0, TA_TIE_LOWEST, 0), TA_DONE, 0));
+    CHECK(rearrange(LENT, TA_ORDER_ZYX, LENT) == TA_DONE);
 }
 
 /* ---- document 01's card and report */
@@ -925,6 +962,268 @@ static void many_written(uint64_t capacity, size_t count)
     CHECK(is_filled(second + len, LENGTH(second) - len));
 }
 
+/* ---- archives with their axes in another order */
+
+/* The orders by their letters, and which order undoes each of them. */
+static const char *const letters[6] = {"xyz", "xzy", "yxz", "yzx", "zxy", "zyx"};
+static const uint64_t inverse[6] = {0, 1, 2, 4, 3, 5};
+
+/* Three words with the axes in this order. */
+static void turn(uint64_t order, const uint64_t *from, uint64_t *to)
+{
+    size_t i;
+
+    for (i = 0; i < 3; i++) {
+        to[i] = from[letters[order][i] - 'x'];
+    }
+}
+
+/* The words of an archive in this order, from those of one that the audit
+   passes. */
+static void turn_archive(uint64_t order, const uint64_t *from, uint64_t *to)
+{
+    uint64_t *records = to + TA_RECORDS;
+    uint64_t i;
+
+    memcpy(to, from, TA_WORDS(from[TA_CAPACITY]) * sizeof *from);
+    turn(order, from + TA_REFERENCE, to + TA_REFERENCE);
+    for (i = 0; i < from[TA_COUNT]; i++) {
+        const uint64_t *record = from + TA_RECORDS + i * TA_RECORD_WORDS;
+
+        turn(order, record + 1, records + i * TA_RECORD_WORDS + 1);
+    }
+    qsort(records, from[TA_COUNT], TA_RECORD_WORDS * sizeof *records, by_order);
+}
+
+/* Two trials that differ on all axes, and one equal to the second: by hand. */
+static void three_rearranged(void)
+{
+    static const uint64_t orders[6] = {
+        TA_ORDER_XYZ, TA_ORDER_XZY, TA_ORDER_YXZ, TA_ORDER_YZX, TA_ORDER_ZXY, TA_ORDER_ZYX
+    };
+    static const uint64_t expected[6][3 + 3 * 4] = {
+        {10, 200, 300, 5, 1, 20, 3, 7, 4, 2, 30, 9, 4, 2, 30},
+        {10, 300, 200, 7, 4, 30, 2, 9, 4, 30, 2, 5, 1, 3, 20},
+        {200, 10, 300, 5, 20, 1, 3, 7, 2, 4, 30, 9, 2, 4, 30},
+        {200, 300, 10, 5, 20, 3, 1, 7, 2, 30, 4, 9, 2, 30, 4},
+        {300, 10, 200, 7, 30, 4, 2, 9, 30, 4, 2, 5, 3, 1, 20},
+        {300, 200, 10, 5, 3, 20, 1, 7, 30, 2, 4, 9, 30, 2, 4}
+    };
+    const uint64_t alone = 9 * 180 * 297 - 6 * 180 * 270;
+    uint64_t order;
+    size_t i;
+
+    start(10, 200, 300);
+    CHECK(insert(5, 1, 20, 3) == TA_DONE);
+    CHECK(insert(9, 4, 2, 30) == TA_DONE);
+    CHECK(insert(7, 4, 2, 30) == TA_DONE);
+    for (order = 0; order < 6; order++) {
+        CHECK(orders[order] == order);
+        CHECK(rearrange(LENT, orders[order], LENT) == TA_DONE);
+        CHECK(second[TA_COUNT] == 3 && second[TA_CAPACITY] == 8);
+        CHECK(memcmp(second + TA_REFERENCE, expected[order], 3 * sizeof *second) == 0);
+        CHECK(second[TA_TOTAL] == alone + 6 * 198 * 270);
+        CHECK(second[TA_FRONT] == 3 && second[TA_FRONT + 1] == 0);
+        for (i = 0; i < 3; i++) {
+            const uint64_t *record = second + TA_RECORDS + i * TA_RECORD_WORDS;
+
+            CHECK(memcmp(record, expected[order] + 3 + 4 * i, 4 * sizeof *record) == 0);
+            CHECK(record[4] == (record[0] == 5 ? alone : 0));
+        }
+        for (i = TA_WORDS(3); i < WORDS; i++) {
+            CHECK(second[i] == 0);
+        }
+        CHECK(is_answer(ta_audit(second, LENT), TA_DONE, 1));
+    }
+}
+
+/* The archive in so many orders and rooms: this row of the source, 22 where the
+   order is above 5, and 1 where nothing else is met and the room is short. */
+static void check_rearrange(uint64_t row)
+{
+    static const uint64_t orders[] = {0, 3, 5, 6, 7, 256, ((uint64_t)1 << 32) + 3, UINT64_MAX};
+    static const size_t rooms[] = {0, 7, 8, TA_WORDS(4), WORDS - 1, WORDS, WORDS + 1, LENT};
+    size_t i;
+    size_t j;
+
+    for (i = 0; i < LENGTH(orders); i++) {
+        for (j = 0; j < LENGTH(rooms); j++) {
+            uint64_t first = orders[i] > 5 ? TA_BAD_ORDER : row;
+
+            if (first == TA_DONE && rooms[j] < WORDS) {
+                first = TA_SLICE_SHORT;
+            }
+            CHECK(rearrange(LENT, orders[i], rooms[j]) == first);
+        }
+    }
+}
+
+/* Rows 22, 13 and 1 of the second slice, in this order. Rows 1 to 3 are with
+   those of the other calls. */
+static void rows_of_rearrange(void)
+{
+    static const struct { size_t at; uint64_t value; } wrong[] = {
+        {TA_TOTAL, 20}, {TA_TOTAL, 22}, {TA_FRONT, 3}, {TA_FRONT, 0},
+        {TA_WORDS(1) - 1, 3}, {TA_WORDS(1) - 1, 5}, {TA_WORDS(4) - 1, 0}, {TA_WORDS(4) - 1, 2}
+    };
+    size_t i;
+
+    CHECK(TA_BAD_ORDER == 22);
+    insert_card(4);
+    check_rearrange(TA_DONE);
+    for (i = 0; i < LENGTH(wrong); i++) {
+        uint64_t own = words[wrong[i].at];
+
+        words[wrong[i].at] = wrong[i].value;
+        check_rearrange(TA_MISCOUNT);
+        words[wrong[i].at] = own;
+    }
+    CHECK(rearrange(WORDS, TA_ORDER_ZYX, WORDS) == TA_DONE);
+    /* no trial, and a total */
+    start(4, 5, 6);
+    check_rearrange(TA_DONE);
+    words[TA_TOTAL] = 1;
+    check_rearrange(TA_MISCOUNT);
+}
+
+/* An archive and its copies in all orders, between guards. */
+enum { MANY = TA_WORDS(TA_MAX_CAPACITY), MANY_LENT = MANY + BEHIND };
+
+static uint64_t many_memory[GUARD + MANY_LENT + GUARD];
+static uint64_t turned_memory[GUARD + MANY_LENT + GUARD];
+static uint64_t back_memory[GUARD + MANY_LENT + GUARD];
+
+/* Rearranges the first archive into the second slice, both of which have
+   `behind` words more. All else, and the first archive, is left as it was. */
+static int rearranged_between(const uint64_t *from_memory, uint64_t order, uint64_t *to_memory,
+                              uint64_t mark, size_t behind)
+{
+    static uint64_t copy[LENGTH(many_memory)];
+    const uint64_t *from = from_memory + GUARD;
+    const size_t len = TA_WORDS(from[TA_CAPACITY]);
+    uint64_t *to = to_memory + GUARD;
+    uint64_t refusal;
+
+    fill_by(mark, to_memory, LENGTH(many_memory));
+    memcpy(copy, from_memory, sizeof copy);
+    refusal = ta_rearrange(from, len + behind, order, to, len + behind);
+    return refusal == TA_DONE && memcmp(copy, from_memory, sizeof copy) == 0
+        && is_filled_by(mark, to_memory, GUARD)
+        && is_filled_by(mark, to + len, LENGTH(many_memory) - GUARD - len);
+}
+
+/* The reference and so many trials, which many_rearranged takes. */
+static uint64_t many_reference[3];
+static uint64_t many_trials[TA_MAX_CAPACITY][4];
+
+/* Random trials, many of them equal on some axes or on all, some at the
+   reference or beyond it. */
+static void draw_trials(size_t count)
+{
+    size_t i;
+    size_t axis;
+
+    for (axis = 0; axis < 3; axis++) {
+        many_reference[axis] = 1 + next_random() % TA_MAX_REFERENCE;
+    }
+    for (i = 0; i < count; i++) {
+        /* wide and narrow in turn, both falling */
+        many_trials[i][0] = i % 2 == 0 ? TA_MAX_NUMBER - 19531 * i : TA_MAX_CAPACITY - i;
+        for (axis = 0; axis < 3; axis++) {
+            uint64_t random = next_random();
+            const uint64_t limits[4] = {0, many_reference[axis], TA_MAX_COORDINATE, 1};
+
+            many_trials[i][1 + axis] = i % 8 == 0 ? limits[random % 4]
+                : i % 8 == 4 ? random % (TA_MAX_COORDINATE + 1)
+                : i % 4 == 1 ? random % (many_reference[axis] + 1) : random % 3;
+        }
+    }
+}
+
+/* Trials on one plane, of which every one contributes. Where they are not as many
+   as can be, up to three of them are beyond the reference and on the front too. */
+static void draw_plane(size_t count)
+{
+    static const uint64_t beyond[3][3] = {{4001, 0, 0}, {0, TA_MAX_COORDINATE, 0}, {0, 0, 6001}};
+    size_t i;
+
+    for (i = 0; i < 3; i++) {
+        many_reference[i] = 4000 + 1000 * i;
+    }
+    for (i = 0; i < count; i++) {
+        uint64_t *trial = many_trials[i];
+
+        trial[0] = 1 + i * 7919 % 8191;
+        trial[1] = 1 + i * 331 % 1000;
+        trial[2] = 1 + i * 577 % 1000;
+        trial[3] = 3000 - trial[1] - trial[2];
+        if (count < TA_MAX_CAPACITY && i % 60 == 30) {
+            memcpy(trial + 1, beyond[i / 60], sizeof beyond[0]);
+        }
+    }
+}
+
+/* So many of the trials drawn, in all orders: as turned and sorted here, as
+   inserted into a fresh archive, and restored by the inverse. */
+static void many_rearranged(uint64_t capacity, size_t count)
+{
+    static uint64_t expected[MANY];
+    static uint64_t turned_trials[TA_MAX_CAPACITY][4];
+    static uint64_t fresh[MANY];
+    const uint64_t *reference = many_reference;
+    const size_t len = TA_WORDS(capacity);
+    uint64_t *const many = many_memory + GUARD;
+    uint64_t *const turned = turned_memory + GUARD;
+    uint64_t *const back = back_memory + GUARD;
+    uint64_t order;
+    size_t i;
+
+    fill(many_memory, LENGTH(many_memory));
+    CHECK(ta_start(many, len, reference[0], reference[1], reference[2], capacity) == TA_DONE);
+    CHECK(is_grid(ta_insert_grid(many, len, many_trials[0], 4 * count), TA_DONE, count, TA_DONE));
+    for (order = 0; order < 6; order++) {
+        uint64_t r[3];
+
+        CHECK(rearranged_between(many_memory, order, turned_memory, SECOND_MARK,
+                                 order % (BEHIND + 1)));
+        turn_archive(order, many, expected);
+        CHECK(memcmp(turned, expected, len * sizeof *turned) == 0);
+        CHECK(is_answer(ta_audit(turned, len), TA_DONE, 1));
+
+        turn(order, reference, r);
+        for (i = 0; i < count; i++) {
+            turned_trials[i][0] = many_trials[i][0];
+            turn(order, many_trials[i] + 1, turned_trials[i] + 1);
+        }
+        CHECK(ta_start(fresh, len, r[0], r[1], r[2], capacity) == TA_DONE);
+        CHECK(is_grid(ta_insert_grid(fresh, len, turned_trials[0], 4 * count),
+                      TA_DONE, count, TA_DONE));
+        CHECK(memcmp(turned, fresh, len * sizeof *turned) == 0);
+
+        CHECK(rearranged_between(turned_memory, inverse[order], back_memory, MARK,
+                                 BEHIND - order % (BEHIND + 1)));
+        CHECK(memcmp(back, many, len * sizeof *back) == 0);
+        fill(turned_memory, LENGTH(turned_memory));
+        CHECK(ta_rearrange(many, len, order, turned, len - 1) == TA_SLICE_SHORT);
+        CHECK(is_filled(turned_memory, LENGTH(turned_memory)));
+    }
+}
+
+static void archives_rearranged(void)
+{
+    static const size_t sizes[][2] = {{1, 0}, {1, 1}, {TA_MAX_CAPACITY, 0}, {9, 7}, {200, 199},
+                                      {TA_MAX_CAPACITY, TA_MAX_CAPACITY}};
+    size_t i;
+
+    for (i = 0; i < LENGTH(sizes); i++) {
+        draw_trials(sizes[i][1]);
+        many_rearranged(sizes[i][0], sizes[i][1]);
+        draw_plane(sizes[i][1]);
+        many_rearranged(sizes[i][0], sizes[i][1]);
+    }
+    CHECK(many_memory[GUARD + TA_FRONT] == TA_MAX_CAPACITY);
+}
+
 /* ---- the refusals, by their numbers: zeros for all else, memory as before */
 
 /* Rows 1 to 3, given by every call that reads an archive. */
@@ -952,6 +1251,10 @@ static void check_row(uint64_t row, size_t len)
     check_out(0);
     CHECK(is_answer(write_card(len, 0), row, 0));
     check_out(0);
+    /* before rows 22 and 1 of the second slice */
+    CHECK(rearrange(len, TA_ORDER_YZX, LENT) == row);
+    CHECK(rearrange(len, 6, WORDS) == row);
+    CHECK(rearrange(len, UINT64_MAX, 0) == row);
     check_untouched(before);
 }
 
@@ -1124,6 +1427,7 @@ static void numbers_too_wide(void)
             CHECK(insert(7, at[0], at[1], at[2]) == TA_BAD_COORDINATE);
             CHECK(is_answer(gain(at[0], at[1], at[2]), TA_BAD_COORDINATE, 0));
             CHECK(is_change(replace_effect(1, at[0], at[1], at[2]), TA_BAD_COORDINATE, 0));
+            CHECK(rearrange(LENT, wide[i], LENT) == TA_BAD_ORDER);
             check_untouched(before);
         }
     }
@@ -1148,6 +1452,10 @@ static void numbers_converted(void)
     CHECK(ta_remove(words, LENT, negative) == TA_NOT_HELD);
     CHECK(is_answer(ta_joint(words, LENT, 1, negative), TA_NOT_HELD, 0));
     CHECK(is_answer(ta_reduce(words, LENT, negative, TA_TIE_LOWEST, log_words, LOG), TA_ABOVE_COUNT, 0));
+    CHECK(is_least(ta_least(words, LENT, negative), TA_BAD_RULE, 0, 0));
+    CHECK(ta_rearrange(words, LENT, negative, second, LENT) == TA_BAD_ORDER);
+    CHECK(ta_rearrange(words, LENT, near_zero, second, LENT) == TA_DONE);
+    CHECK(memcmp(second, words, WORDS * sizeof *words) == 0);
     check_untouched(before);
 
     CHECK(ta_insert(words, LENT, 7, fraction, near_zero, 3.0) == TA_DONE);
@@ -2109,6 +2417,9 @@ int main(void)
     many_written(TA_MAX_CAPACITY, 0);
     many_written(200, 199);
     many_written(TA_MAX_CAPACITY, TA_MAX_CAPACITY);
+    three_rearranged();
+    rows_of_rearrange();
+    archives_rearranged();
     rows_1_to_3();
     rows_4_to_10();
     rows_11_to_13();

@@ -16,6 +16,7 @@
 enum { STACK_BYTES = 1 << 20, MARK = 0xa5, LINE = 33 };
 
 static uint64_t words[TA_WORDS(TA_MAX_CAPACITY)];
+static uint64_t second[TA_WORDS(TA_MAX_CAPACITY)];
 static uint64_t log_words[2 * TA_MAX_CAPACITY];
 static uint8_t out[TA_REPORT_BYTES(TA_MAX_CAPACITY)];
 static uint8_t card[TA_CARD_BYTES(TA_MAX_CAPACITY)];
@@ -44,6 +45,7 @@ static void card_check(void) { answer = ta_card_check(card, sizeof card); }
 static void card_load(void) { answer = ta_card_load(words, len, card, sizeof card).refusal; }
 static void card_write(void) { answer = ta_card_write(words, len, out, sizeof out).refusal; }
 static void report(void) { answer = ta_report(words, len, out, sizeof out).refusal; }
+static void rearrange(void) { answer = ta_rearrange(words, len, TA_ORDER_YZX, second, len); }
 static void volume(void) { answer = ta_volume(corner, points, 3 * TA_MAX_POINTS).refusal; }
 static void count4(void) { answer = ta_count4(2000, 2000, 2000, 2000, coords, 4 * TA_MAX_POINTS, counts, TA_COUNT4_WORDS(TA_MAX_POINTS)); }
 
@@ -116,9 +118,9 @@ int main(void)
         {"ta_start", start}, {"ta_card_check", card_check}, {"ta_card_load", card_load},
         {"ta_least", least}, {"ta_joint", joint}, {"ta_gain", gain},
         {"ta_replace_effect", replace_effect}, {"ta_share", share}, {"ta_audit", audit},
-        {"ta_card_write", card_write}, {"ta_report", report}, {"ta_remove", remove_trial},
-        {"ta_insert_grid", insert_grid}, {"ta_remove", remove_trial}, {"ta_insert", insert},
-        {"ta_reduce", reduce}, {"ta_volume", volume}, {"ta_count4", count4},
+        {"ta_card_write", card_write}, {"ta_report", report}, {"ta_rearrange", rearrange},
+        {"ta_remove", remove_trial}, {"ta_insert_grid", insert_grid}, {"ta_remove", remove_trial},
+        {"ta_insert", insert}, {"ta_reduce", reduce}, {"ta_volume", volume}, {"ta_count4", count4},
     };
     size_t base;
     size_t i;

@@ -39,8 +39,8 @@
  *   ta_remove, ta_reduce and ta_card_load that is done, and by each
  *   ta_insert_grid by which a trial goes in. In archives kept from
  *   before it was counted it is 0: where trials are held, ta_audit says no and
- *   ta_reduce is refused (13) until an insertion or a removal is done; all
- *   other calls are as ever.
+ *   ta_reduce and ta_rearrange are refused (13) until an insertion or a removal
+ *   is done; all other calls are as ever.
  *
  * ANSWERS AND REFUSALS
  *   Every call ends, with any words, doubles, card and arguments, in the
@@ -51,13 +51,14 @@
  *   Bytes and words behind those that a call is said to write stay unchanged.
  *
  * NUMBERS AS C PASSES THEM
- *   Coordinates, reference numbers, the capacity, trial numbers and k are
- *   uint64_t, and a call judges all 64 bits. C converts an argument of another
- *   type before the call, and the number that arrives is the one judged:
+ *   Coordinates, reference numbers, the capacity, trial numbers, k, tie rules
+ *   and orders of the axes are uint64_t, and a call judges all 64 bits. C
+ *   converts an argument of another type before the call, and the number that
+ *   arrives is the one judged:
  *     - A negative integer arrives as 2^64 less its size and is refused like
  *       any other that is too large: by row 4 at ta_start and in the reference
  *       of ta_count4, 5 as a new trial's number, 6 as a coordinate, 9 as the
- *       number of a trial held, 11 as k.
+ *       number of a trial held, 11 as k, 18 as a tie rule, 22 as an order.
  *     - A double loses its fraction: 2.9 arrives as 2, and -0.9 as 0. One that
  *       is -1 or less, 2^64 or more, or not a number is undefined behaviour in
  *       C, before the call; the library cannot see it.
@@ -196,7 +197,8 @@ extern "C" {
 /*
  * The refusals. Rows are checked in this order, save that ta_start checks 4
  * before 1, ta_replace_effect 9 before 6, ta_volume 20 before 19, 17 comes
- * first, 18 right after 3, and that ta_count4 checks 4, 17, 20, 6, 16.
+ * first, 18 right after 3, that ta_count4 checks 4, 17, 20, 6, 16, and that
+ * ta_rearrange checks 22 before 13, and behind them row 1 of its second slice.
  * ta_start and ta_card_load check neither 2 nor 3; for them row 1 is a slice
  * shorter than 8 + 5 * the capacity given.
  */
@@ -204,7 +206,8 @@ enum {
     /* Not a refusal: the call is done. */
     TA_DONE = 0,
     /* Archive slice: fewer than 8 words; or, after row 2 has passed, fewer
-       than 8 + 5 * capacity. */
+       than 8 + 5 * capacity. Rearrange: also a second slice of fewer than
+       8 + 5 * the archive's capacity; checked last. */
     TA_SLICE_SHORT = 1,
     /* Header: capacity or a reference word out of range; count above capacity;
        total above the box; word 6 above the count; word 7 not zero. */
@@ -233,7 +236,7 @@ enum {
     /* Reduce: log shorter than 2 * (count - k) words. */
     TA_LOG_SHORT = 12,
     /* Insert, remove: a new total or contribution would fall below 0 or exceed
-       the box. Reduce: the audit's answer is no. */
+       the box. Reduce, rearrange: the audit's answer is no. */
     TA_MISCOUNT = 13,
     /* Least: no trial held. */
     TA_NONE_HELD = 14,
@@ -255,13 +258,25 @@ enum {
     TA_BAD_DOUBLE = 19,
     /* Volume, count4: more than 512 points. Checked before 19, and by count4
        before 6. */
-    TA_TOO_MANY_POINTS = 20
+    TA_TOO_MANY_POINTS = 20,
+    /* Rearrange: an order of the axes above 5. Checked after row 3 and before
+       13. */
+    TA_BAD_ORDER = 22
 };
 
 /* The tie rules: which of several least contributors goes, the one with the
    lowest trial number (the default) or the one with the highest. */
 #define TA_TIE_LOWEST 0
 #define TA_TIE_HIGHEST 1
+
+/* The orders of the axes: which old axis comes first, second and third. YZX and
+   ZXY undo each other; each of the others undoes itself. */
+#define TA_ORDER_XYZ 0
+#define TA_ORDER_XZY 1
+#define TA_ORDER_YXZ 2
+#define TA_ORDER_YZX 3
+#define TA_ORDER_ZXY 4
+#define TA_ORDER_ZYX 5
 
 /* A refusal, or 0 and one number. */
 typedef struct ta_answer {
@@ -460,6 +475,30 @@ ta_answer ta_card_write(const uint64_t *words, size_t len,
  */
 ta_answer ta_report(const uint64_t *words, size_t len,
                     uint8_t *out, size_t out_len);
+
+/*
+ * Writes the archive with its axes in another order, reference and trials, into
+ * a second slice. The letters of the order name which old axis comes first,
+ * second and third: by TA_ORDER_YZX (3) the new x is the old y, the new y the
+ * old z, and the new z the old x.
+ *
+ * The second slice receives TA_WORDS(capacity) words; what they held before does
+ * not matter, and words behind them stay unchanged. They are those of a fresh
+ * archive of equal capacity that holds the rearranged trials under the
+ * rearranged reference. The total, the front's size and each trial number's
+ * contribution are those of the archive given, the records stand by z, then y,
+ * then x, then trial number of the new coordinates, and ta_audit says yes.
+ * TA_ORDER_XYZ copies the archive. The order that undoes the first one, applied
+ * to the second slice, restores every word before 8 + 5 * capacity.
+ *
+ * The archive is only read, and must not share memory with the second slice;
+ * second_len is in words. On a refusal the second slice is as before. Where its
+ * length is 0, the pointer is the address of any word.
+ * Refusals, in this order: 1 to 3 for the archive, 22, 13 where ta_audit says
+ * no, 1 for a second slice of fewer than 8 + 5 * capacity words.
+ */
+uint64_t ta_rearrange(const uint64_t *words, size_t len, uint64_t order,
+                      uint64_t *second, size_t second_len);
 
 /*
  * The volume of some points in double precision, to stand beside the figures of

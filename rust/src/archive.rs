@@ -2,7 +2,7 @@
 
 use crate::refusal::{CardRefusal, Refusal};
 use crate::words;
-use crate::TieRule;
+use crate::{AxisOrder, TieRule};
 
 const MAX_CAPACITY: usize = 512;
 
@@ -154,6 +154,15 @@ impl Archive {
         let length = words::report(&self.words, &mut out)?;
         out.truncate(length as usize);
         Ok(String::from_utf8(out).expect("a report has digits, spaces and line ends only"))
+    }
+
+    /// The archive with its axes in another order, reference and trials. Total and front are the same,
+    /// and each trial number keeps its contribution. Refused by [`Refusal::Miscount`] where the audit
+    /// says no.
+    pub fn rearranged(&self, order: AxisOrder) -> Result<Archive, Refusal> {
+        let mut memory = vec![0; self.words.len()];
+        words::rearrange(&self.words, order, &mut memory)?;
+        Ok(Archive { words: memory })
     }
 
     /// The count of trials held.

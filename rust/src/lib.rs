@@ -57,8 +57,16 @@
 //! [`Archive::write_card`] gives loads to the same words where the audit says yes. A card that is
 //! loaded and written again has its trials in archive order, and is the same byte for byte exactly
 //! where they stood in that order.
+//!
+//! # Orders of the axes
+//!
+//! [`Archive::rearranged`] gives the archive with its axes in another order, reference and trials: the
+//! one that a fresh archive of the rearranged trials would be. Total and front are the same, and each
+//! trial number keeps its contribution. There are six orders, see [`AxisOrder`]; the
+//! [`AxisOrder::inverse`] of one restores every word.
 
 mod archive;
+mod axes;
 mod four;
 mod refusal;
 mod rule;
@@ -67,6 +75,7 @@ mod volume;
 pub mod words;
 
 pub use archive::{Archive, Contribution, Filled, Trial};
+pub use axes::AxisOrder;
 pub use four::{count4, Counts4};
 pub use refusal::{CardRefusal, Refusal};
 pub use rule::TieRule;

@@ -8,7 +8,8 @@ use std::fmt;
 #[non_exhaustive]
 #[repr(u8)]
 pub enum Refusal {
-    /// Archive slice: fewer than 8 words, or fewer than 8 + 5 × capacity.
+    /// Archive slice: fewer than 8 words, or fewer than 8 + 5 × capacity. Rearrange: also a second
+    /// slice of fewer than 8 + 5 × the archive's capacity.
     SliceShort = 1,
     /// Header: capacity or a reference word out of range; count above capacity; total above the
     /// box; word 6 above the count; word 7 not zero.
@@ -34,8 +35,8 @@ pub enum Refusal {
     AboveCount = 11,
     /// Reduce: log shorter than 2 × (count − k) words.
     LogShort = 12,
-    /// Insert, remove: a new total or contribution would fall below 0 or exceed the box. Reduce:
-    /// the audit's answer is no.
+    /// Insert, remove: a new total or contribution would fall below 0 or exceed the box. Reduce,
+    /// rearrange: the audit's answer is no.
     Miscount = 13,
     /// Least: no trial held.
     NoneHeld = 14,
@@ -54,11 +55,13 @@ pub enum Refusal {
     BadDouble = 19,
     /// Volume, count4: more than 512 points.
     TooManyPoints = 20,
+    /// Rearrange: an order of the axes above 5. Only the bare C interface can be given one.
+    BadOrder = 22,
 }
 
 impl Refusal {
     /// Every refusal, in the order of the table.
-    pub const ALL: [Refusal; 20] = [
+    pub const ALL: [Refusal; 21] = [
         Refusal::SliceShort,
         Refusal::BadHeader,
         Refusal::BadRecords,
@@ -79,6 +82,7 @@ impl Refusal {
         Refusal::BadRule,
         Refusal::BadDouble,
         Refusal::TooManyPoints,
+        Refusal::BadOrder,
     ];
 
     /// The number of its row.
@@ -123,6 +127,7 @@ impl fmt::Display for Refusal {
             Refusal::BadRule => "tie rule neither 0 nor 1",
             Refusal::BadDouble => "a double not whole or out of range",
             Refusal::TooManyPoints => "more than 512 points",
+            Refusal::BadOrder => "order of the axes above 5",
         })
     }
 }

@@ -119,6 +119,14 @@ extern "C" {
 
     pub fn ta_report(words: *const u64, len: usize, out: *mut u8, out_len: usize) -> Answer;
 
+    pub fn ta_rearrange(
+        words: *const u64,
+        len: usize,
+        order: u64,
+        second: *mut u64,
+        second_len: usize,
+    ) -> u64;
+
     pub fn ta_volume(reference: Corner, points: *const f64, len: usize) -> VolumeAnswer;
 
     pub fn ta_count4(

@@ -6,7 +6,7 @@
 
 use crate::refusal::{CardRefusal, Refusal};
 use crate::sys;
-use crate::{Contribution, Filled, TieRule};
+use crate::{AxisOrder, Contribution, Filled, TieRule};
 
 /// The words that an archive of this capacity takes: 8 + 5 × capacity.
 pub const fn needed(capacity: usize) -> usize {
@@ -143,6 +143,20 @@ pub fn report(words: &[u64], out: &mut [u8]) -> Result<u64, Refusal> {
     // SAFETY: pointers and lengths are those of two slices borrowed for the call, the second
     // mutably, which therefore share no memory.
     value(unsafe { sys::ta_report(words.as_ptr(), words.len(), out.as_mut_ptr(), out.len()) })
+}
+
+/// Writes the archive with its axes in another order, reference and trials, into the first
+/// 8 + 5 × capacity words of the second slice; what these held before does not matter. Words behind
+/// them are not written, and none is where the call is turned down: by the checks of the archive, then
+/// by [`Refusal::Miscount`] where the audit says no, then by [`Refusal::SliceShort`] for the second
+/// slice.
+pub fn rearrange(words: &[u64], order: AxisOrder, second: &mut [u64]) -> Result<(), Refusal> {
+    // SAFETY: pointers and lengths are those of two slices borrowed for the call, the second
+    // mutably, which therefore share no memory.
+    Refusal::check(unsafe {
+        let (words, len) = (words.as_ptr(), words.len());
+        sys::ta_rearrange(words, len, order.number(), second.as_mut_ptr(), second.len())
+    })
 }
 
 /// The volume of points in double precision, as [`crate::volume()`] gives it, from a slice with three

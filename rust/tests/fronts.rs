@@ -134,7 +134,8 @@ fn full_archives() {
 }
 
 /// "Archives kept from before have 0 there": an audit says no until an insertion or a removal is
-/// done, and reduce is refused; the other calls are as ever, and an empty archive is right.
+/// done, and reduce and rearrange are refused; the other calls are as ever, and an empty archive is
+/// right.
 #[test]
 fn kept_from_before() {
     scenes(3, |rng| {
@@ -150,6 +151,8 @@ fn kept_from_before() {
             let log = vec![7; 2 * (count - k) as usize];
             let row = if count == 0 { 0 } else { 13 };
             assert_eq!(expect(&Call::Reduce { k, rule: k % 2, log }, &words, row).words, words);
+            let second = vec![7; words.len()];
+            expect(&Call::Rearrange { order: k % 6, second }, &words, row);
         }
         let point = shape.point(rng, &[]);
         for call in [
@@ -170,6 +173,6 @@ fn kept_from_before() {
         assert_eq!(expect(&Call::Audit, &inserted.words, 0).answer, [0, u64::from(room)]);
         let removed = compare(&Call::Remove { number: words[8] }, &words);
         assert_eq!(expect(&Call::Audit, &removed.words, 0).answer, [0, 1]);
-        12
+        15
     });
 }

@@ -1,13 +1,14 @@
 //! One call, made three times on equal memory: by the reference, by the bare C interface on
 //! fenced memory, and by the safe functions. Answers and all lent memory must agree, that which
-//! is only read included. The safe functions take coordinates of 32 bits, one of the two tie rules
-//! and grids of whole trials; a call with wider ones, another rule or another length is made two
-//! ways. Doubles are compared by their bits. To a count on four axes the words are its output.
+//! is only read included. The safe functions take coordinates of 32 bits, one of the two tie rules,
+//! one of the six orders of the axes and grids of whole trials; a call with wider ones, another rule,
+//! order or length is made two ways. Doubles are compared by their bits. To a count on four axes the
+//! words are its output; in a rearranging the second slice stands in the log's place.
 
 use crate::reference::four::{self, Point4};
-use crate::reference::{calls, cards, volume, Point};
+use crate::reference::{axes, calls, cards, volume, Point};
 use std::collections::BTreeMap;
-use trial_archive::{check_card, sys, words, CardRefusal, Refusal, TieRule};
+use trial_archive::{check_card, sys, words, Archive, AxisOrder, CardRefusal, Refusal, TieRule};
 
 #[derive(Clone, Debug)]
 pub enum Call {
@@ -26,6 +27,7 @@ pub enum Call {
     Load { card: Vec<u8> },
     WriteCard { out: Vec<u8> },
     Report { out: Vec<u8> },
+    Rearrange { order: u64, second: Vec<u64> },
     Volume { reference: [f64; 3], points: Vec<f64> },
     Count4 { reference: Point4, coords: Vec<u64> },
 }
@@ -48,6 +50,7 @@ impl Call {
             Call::Load { .. } => "load",
             Call::WriteCard { .. } => "write_card",
             Call::Report { .. } => "report",
+            Call::Rearrange { .. } => "rearrange",
             Call::Volume { .. } => "volume",
             Call::Count4 { .. } => "count4",
         }
@@ -109,6 +112,7 @@ impl Call {
     fn is_bare(&self) -> bool {
         match self {
             Call::InsertGrid { grid } => fours(grid).is_none(),
+            Call::Rearrange { order, .. } => *order > 5,
             Call::Count4 { .. } => false,
             _ => self.is_wide() || self.rule() > 1,
         }
@@ -190,15 +194,20 @@ type Way = fn(&Call, &[u64]) -> Outcome;
 /// Makes the call all three ways and compares.
 pub fn compare(call: &Call, lent: &[u64]) -> Outcome {
     let expected = by_reference(call, lent);
+    agree(call, lent, &expected);
+    expected
+}
+
+/// The C interface and, where they can be asked, the safe functions come to this outcome.
+pub fn agree(call: &Call, lent: &[u64], expected: &Outcome) {
     let ways: [(&str, Way); 2] = [("C interface", by_c), ("safe functions", by_safe)];
     for (way, run) in &ways[..if call.is_bare() { 1 } else { 2 }] {
         let found = run(call, lent);
         assert!(
-            found == expected,
+            found == *expected,
             "{way}\ncall: {call:?}\nwords lent: {lent:?}\nexpected: {expected:?}\nfound: {found:?}"
         );
     }
-    expected
 }
 
 /// Compares, and asserts the refusal number (0: done) that the document itself gives.
@@ -259,14 +268,14 @@ impl Tally {
     }
 }
 
-/// What is lent beside the words: the log, the grid, the coordinates or the bits of points, the
-/// output and the card.
+/// What is lent beside the words: the log, the grid, the second slice, the coordinates or the bits of
+/// points, the output and the card.
 fn lists(call: &Call) -> (Vec<u64>, Vec<u8>, Vec<u8>) {
     match call {
-        Call::Reduce { log, .. } => (log.clone(), Vec::new(), Vec::new()),
-        Call::InsertGrid { grid: list } | Call::Count4 { coords: list, .. } => {
-            (list.clone(), Vec::new(), Vec::new())
-        }
+        Call::Reduce { log: list, .. }
+        | Call::Rearrange { second: list, .. }
+        | Call::InsertGrid { grid: list }
+        | Call::Count4 { coords: list, .. } => (list.clone(), Vec::new(), Vec::new()),
         Call::Volume { points, .. } => {
             (points.iter().map(|double| double.to_bits()).collect(), Vec::new(), Vec::new())
         }
@@ -308,6 +317,7 @@ fn by_reference(call: &Call, lent: &[u64]) -> Outcome {
         },
         Call::WriteCard { .. } => double(cards::write(&words, &mut out)),
         Call::Report { .. } => double(calls::report(&words, &mut out)),
+        Call::Rearrange { order, .. } => single(axes::rearrange(&words, *order, &mut log)),
         Call::Volume { reference, points } => {
             double(volume::volume(*reference, points).map(f64::to_bits))
         }
@@ -422,6 +432,10 @@ fn by_c(call: &Call, lent: &[u64]) -> Outcome {
                 let out_len = out.len();
                 fields(sys::ta_report(words.ptr(), len, out.mut_ptr(), out_len))
             }
+            Call::Rearrange { order, .. } => {
+                let second_len = log.len();
+                vec![sys::ta_rearrange(words.ptr(), len, *order, log.mut_ptr(), second_len)]
+            }
             Call::Volume { reference: [x, y, z], .. } => {
                 let reference = sys::Corner { x: *x, y: *y, z: *z };
                 // Words and doubles have the same size and alignment.
@@ -480,6 +494,7 @@ fn by_safe(call: &Call, lent: &[u64]) -> Outcome {
         },
         Call::WriteCard { .. } => double(numbered(words::write_card(&memory, &mut out))),
         Call::Report { .. } => double(numbered(words::report(&memory, &mut out))),
+        Call::Rearrange { order, .. } => single(rearrange(&memory, *order, &mut log)),
         Call::Volume { reference, points } => {
             let volume = match threes(points) {
                 Some(threes) => trial_archive::volume(*reference, threes),
@@ -490,6 +505,21 @@ fn by_safe(call: &Call, lent: &[u64]) -> Outcome {
         Call::Count4 { reference, coords } => single(count4(*reference, coords, &mut memory)),
     };
     Outcome { answer, words: memory, log, out, card }
+}
+
+/// By the slices lent, and by an archive that owns its words, where they are one; it finds room.
+fn rearrange(words: &[u64], order: u64, second: &mut [u64]) -> Result<(), u64> {
+    let order = AxisOrder::from_number(order).expect("one of the six");
+    let lent = numbered(words::rearrange(words, order, second));
+    if let Ok(archive) = Archive::from_words(words.to_vec()) {
+        let owned = numbered(archive.rearranged(order)).map(Archive::into_words);
+        match lent {
+            Ok(()) => assert_eq!(owned.as_deref(), Ok(&second[..archive.words().len()])),
+            Err(1) => assert!(owned.is_ok()),
+            Err(row) => assert_eq!(owned, Err(row)),
+        }
+    }
+    lent
 }
 
 /// By the slices lent, and by points, where they are whole and no output is too short.

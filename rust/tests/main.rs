@@ -12,6 +12,7 @@ mod grids;
 mod histories;
 mod lend;
 mod random_calls;
+mod rearranging;
 mod reference;
 mod replacing;
 mod rng;

@@ -66,6 +66,7 @@ fn run(percent: u64, size: Size) {
     tally.covers("audit", &[0, 1, 2, 3]);
     tally.covers("write_card", &[0, 1, 2, 3, 16]);
     tally.covers("report", &[0, 1, 2, 3, 16]);
+    tally.covers("rearrange", &[0, 1, 2, 3, 13, 22]);
     for call in ["start", "insert", "insert_grid", "gain", "replace_effect"] {
         tally.covers_wide(call);
     }
@@ -82,6 +83,7 @@ fn run(percent: u64, size: Size) {
         "audit",
         "write_card",
         "report",
+        "rearrange",
     ];
     for call in all {
         tally.covers_beyond(call);

@@ -277,7 +277,7 @@ pub fn part(rng: &mut Rng, words: &[u64], needed: usize) -> usize {
 pub fn call(rng: &mut Rng, shape: &Shape, words: &[u64]) -> Call {
     let archive =
         calls::read(words).unwrap_or_else(|_| Archive::empty(shape.reference, shape.capacity));
-    match rng.within(0..=31) {
+    match rng.within(0..=33) {
         0..=6 => Call::Insert {
             number: number(rng, shape, &archive, 25),
             point: point(rng, shape, &archive),
@@ -297,7 +297,8 @@ pub fn call(rng: &mut Rng, shape: &Shape, words: &[u64]) -> Call {
         23 | 24 => Call::WriteCard { out: output(rng, &archive, 33) },
         25 | 26 => Call::Report { out: output(rng, &archive, 53) },
         27..=29 => insert_grid(rng, shape, &archive),
-        _ => replace_effect(rng, shape, &archive),
+        30 | 31 => replace_effect(rng, shape, &archive),
+        _ => rearrange(rng, &archive),
     }
 }
 
@@ -334,6 +335,18 @@ fn replace_effect(rng: &mut Rng, shape: &Shape, archive: &Archive) -> Call {
         _ => point(rng, shape, archive),
     };
     Call::ReplaceEffect { number, point }
+}
+
+/// An order of the axes, now and then one that there is not, and a second slice that holds anything,
+/// now and then too short.
+fn rearrange(rng: &mut Rng, archive: &Archive) -> Call {
+    let order = match rng.within(0..=7) {
+        0 => rng.pick(&[6, 7, 255, 256, 1 << 32, 3 | 1 << 32, 1 << 63, u64::MAX]),
+        _ => rng.within(0..=5),
+    };
+    let exact = 8 + 5 * archive.capacity;
+    let length = rng.pick(&[exact, exact, exact, exact + 1, exact + 9, exact - 1, exact - 5, 8, 0]);
+    Call::Rearrange { order, second: (0..length).map(|_| rng.next()).collect() }
 }
 
 /// A number of more than 32 bits, often one that a cut to 32 bits would make 0, 1 or this one.

@@ -1,6 +1,6 @@
 //! What the owning archive and the other safe functions add to the calls.
 
-use trial_archive::{count4, volume, words, Archive, Counts4, Refusal, TieRule, Trial};
+use trial_archive::{count4, volume, words, Archive, AxisOrder, Counts4, Refusal, TieRule, Trial};
 
 #[test]
 fn start_out_of_range_allocates_nothing_for_it() {
@@ -139,10 +139,61 @@ fn counts_on_four_axes_both_ways() {
     assert_eq!(count4([3, 5, 7, 11], &[[1, 2, 4, 6]]), Ok(counts));
 }
 
+/// Names, numbers, letters and inverses belong together.
+#[test]
+fn orders_of_the_axes() {
+    let orders = [
+        (AxisOrder::Xyz, ['x', 'y', 'z'], AxisOrder::Xyz),
+        (AxisOrder::Xzy, ['x', 'z', 'y'], AxisOrder::Xzy),
+        (AxisOrder::Yxz, ['y', 'x', 'z'], AxisOrder::Yxz),
+        (AxisOrder::Yzx, ['y', 'z', 'x'], AxisOrder::Zxy),
+        (AxisOrder::Zxy, ['z', 'x', 'y'], AxisOrder::Yzx),
+        (AxisOrder::Zyx, ['z', 'y', 'x'], AxisOrder::Zyx),
+    ];
+    for (number, (order, letters, inverse)) in (0..).zip(orders) {
+        assert_eq!(order.number(), number);
+        assert_eq!(AxisOrder::from_number(number), Some(order));
+        assert_eq!(AxisOrder::ALL[number as usize], order);
+        assert_eq!(order.rearrange(['x', 'y', 'z']), letters);
+        assert_eq!(order.inverse(), inverse);
+        assert_eq!(order.inverse().rearrange(letters), ['x', 'y', 'z']);
+    }
+    for number in [6, 7, 256, 1 << 32, 3 | 1 << 32, u64::MAX] {
+        assert_eq!(AxisOrder::from_number(number), None);
+    }
+}
+
+/// As an archive of its own and into a slice, which alone can be too short.
+#[test]
+fn rearranged_both_ways() {
+    let mut archive = Archive::start([4, 5, 6], 2).unwrap();
+    archive.insert(1, [1, 2, 3]).unwrap();
+    archive.insert(2, [3, 0, 5]).unwrap();
+    let rearranged = archive.rearranged(AxisOrder::Yzx).unwrap();
+    let expected = [2, 2, 5, 6, 4, 29, 2, 0, 1, 2, 3, 1, 24, 2, 0, 5, 3, 2];
+    assert_eq!(rearranged.words(), expected);
+    assert_eq!(rearranged.rearranged(AxisOrder::Zxy), Ok(archive.clone()));
+    let mut second = [9; 20];
+    let call = |words: &[u64], second: &mut [u64]| words::rearrange(words, AxisOrder::Yzx, second);
+    assert_eq!(call(archive.words(), &mut second[..17]), Err(Refusal::SliceShort));
+    assert_eq!(second, [9; 20]);
+    assert_eq!(call(archive.words(), &mut second), Ok(()));
+    assert_eq!(second[..18], expected);
+    assert_eq!(second[18..], [9, 9]);
+    // A source that nobody counted, which an owner can have from words kept elsewhere.
+    let mut words = archive.into_words();
+    words[5] -= 1;
+    assert_eq!(call(&words, &mut []), Err(Refusal::Miscount));
+    let foreign = Archive::from_words(words).unwrap();
+    assert_eq!(foreign.rearranged(AxisOrder::Xyz), Err(Refusal::Miscount));
+}
+
+/// 21 is not given yet.
 #[test]
 fn refusals_have_their_numbers() {
     let numbers: Vec<u64> = Refusal::ALL.iter().map(|r| r.number()).collect();
-    assert_eq!(numbers, (1..=20).collect::<Vec<u64>>());
+    assert_eq!(numbers, (1..=20).chain([22]).collect::<Vec<u64>>());
+    assert_eq!(Refusal::from_number(21), None);
     for refusal in Refusal::ALL {
         assert_eq!(Refusal::from_number(refusal.number()), Some(refusal));
     }
@@ -150,5 +201,5 @@ fn refusals_have_their_numbers() {
     let mut texts: Vec<String> = Refusal::ALL.iter().map(Refusal::to_string).collect();
     texts.sort();
     texts.dedup();
-    assert_eq!(texts.len(), 20);
+    assert_eq!(texts.len(), Refusal::ALL.len());
 }

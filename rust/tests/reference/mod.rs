@@ -3,6 +3,7 @@
 //! by other means: one by one where the box is small, in blocks of a compressed grid where it is
 //! not.
 
+pub mod axes;
 pub mod blocks;
 pub mod book;
 pub mod calls;
