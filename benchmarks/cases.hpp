@@ -48,6 +48,7 @@ struct Case {
     State before, after;
     Trial trial{};
     std::uint64_t keep = 0;
+    std::uint64_t order = 0;
     Bytes card;
     Words grid;
     ta_corner corner{};
@@ -298,6 +299,23 @@ public:
     {
         Case c = volume_of(Set{reference, points_of(all)});
         c.exact = {full[TA_TOTAL]};
+        return c;
+    }
+
+    // Into a second slice, the log's place, which is longer by a word that must stay as it is.
+    // What is written there is counted from nothing on the rearranged points.
+    Case rearranging(std::uint64_t order) const
+    {
+        const std::uint64_t untouched = 7;
+        Trials turned = all;
+        for (Trial &t : turned)
+            t.at = textbook::rearranged(order, t.at);
+        Case c;
+        c.order = order;
+        c.before.words = c.after.words = full;
+        c.after.log = fresh(turned, room, textbook::rearranged(order, reference));
+        c.after.log.push_back(untouched);
+        c.before.log.assign(c.after.log.size(), untouched);
         return c;
     }
 

@@ -14,6 +14,7 @@
 #include <iostream>
 #include <map>
 #include <memory>
+#include <tuple>
 
 namespace
 {
@@ -30,16 +31,17 @@ struct Library {
     decltype(&ta_card_load) card_load;
     decltype(&ta_card_write) card_write;
     decltype(&ta_report) report;
+    decltype(&ta_rearrange) rearrange;
     decltype(&ta_volume) volume;
     decltype(&ta_count4) count4;
 };
 
-const Library archive{"archive",     ta_insert, ta_insert_grid, ta_remove,
-                      ta_least,      ta_reduce, ta_audit,       ta_card_load,
-                      ta_card_write, ta_report, ta_volume,      ta_count4};
-const Library yardstick{"yardstick",   rs_insert, rs_insert_grid, rs_remove,
-                        rs_least,      rs_reduce, rs_audit,       rs_card_load,
-                        rs_card_write, rs_report, rs_volume,      four::count};
+const Library archive{"archive",    ta_insert, ta_insert_grid, ta_remove,     ta_least,
+                      ta_reduce,    ta_audit,  ta_card_load,   ta_card_write, ta_report,
+                      ta_rearrange, ta_volume, ta_count4};
+const Library yardstick{"yardstick",  rs_insert, rs_insert_grid, rs_remove,     rs_least,
+                        rs_reduce,    rs_audit,  rs_card_load,   rs_card_write, rs_report,
+                        rs_rearrange, rs_volume, four::count};
 
 // What is timed of them.
 using Task = void (*)(const Library &, State &, const Case &);
@@ -116,6 +118,35 @@ void write_by(decltype(&ta_report) call, State &s)
 void card_write(const Library &l, State &s, const Case &) { write_by(l.card_write, s); }
 
 void report(const Library &l, State &s, const Case &) { write_by(l.report, s); }
+
+void rearrange(const Library &l, State &s, const Case &c)
+{
+    s.refusal = l.rearrange(s.words.data(), s.words.size(), c.order, s.log.data(), s.log.size());
+}
+
+// The same words by std::sort, with no check and no audit.
+void sort_anew(const Library &, State &s, const Case &c)
+{
+    using Record = std::array<std::uint64_t, TA_RECORD_WORDS>;
+    std::array<std::size_t, 3> axes{textbook::old_axis(c.order, 0), textbook::old_axis(c.order, 1),
+                                    textbook::old_axis(c.order, 2)};
+    std::size_t count = s.words[TA_COUNT];
+    std::array<Record, TA_MAX_CAPACITY> records;
+    for (std::size_t i = 0; i < count; i++) {
+        const std::uint64_t *r = &s.words[TA_RECORDS + TA_RECORD_WORDS * i];
+        records[i] = {r[0], r[1 + axes[0]], r[1 + axes[1]], r[1 + axes[2]], r[4]};
+    }
+    std::sort(records.begin(), records.begin() + static_cast<std::ptrdiff_t>(count),
+              [](const Record &a, const Record &b) {
+                  return std::tie(a[3], a[2], a[1], a[0]) < std::tie(b[3], b[2], b[1], b[0]);
+              });
+    auto end = std::copy_n(s.words.begin(), TA_RECORDS, s.log.begin());
+    for (std::size_t axis = 0; axis < 3; axis++)
+        s.log[TA_REFERENCE + axis] = s.words[TA_REFERENCE + axes[axis]];
+    for (std::size_t i = 0; i < count; i++)
+        end = std::copy(records[i].begin(), records[i].end(), end);
+    std::fill(end, s.log.begin() + static_cast<std::ptrdiff_t>(TA_WORDS(s.words[TA_CAPACITY])), 0);
+}
 
 void volume(const Library &l, State &s, const Case &c)
 {
@@ -374,6 +405,14 @@ struct Row {
     Tally tally;
 };
 
+// A rearranging, the audit of the same archive, and the sorting and writing alone.
+struct Beside {
+    std::string set, trials;
+    Samples rearrange, audit, sorting;
+
+    double over_the_audit() const { return rearrange.median() - audit.median(); }
+};
+
 // The peer's figures on four axes, in cells from the exact ones.
 struct Distance {
     std::string set, points;
@@ -436,6 +475,7 @@ const std::string one_grid = "grid";
 const std::string reducing = "reduce";
 const std::string card_written = "card written";
 const std::string one_report = "report";
+const std::string rearranging = "rearrange";
 const std::string in_doubles = "volume in doubles";
 const std::string on_four_axes = "contributions on four axes";
 
@@ -468,6 +508,8 @@ public:
         if (rows.empty())
             throw std::runtime_error("no such call: " + only);
         notes();
+        if (wanted(rearranging))
+            beside_the_audit();
         if (wanted(in_doubles))
             distances(kinds);
         if (wanted(on_four_axes))
@@ -515,6 +557,9 @@ private:
         for (Kind kind : kinds)
             plain(one_report, report, &Story::report, kind, 8);
         for (Kind kind : kinds)
+            for (std::size_t size : {64, 200, 512})
+                rearrangings(kind, size);
+        for (Kind kind : kinds)
             volumes(kind);
     }
 
@@ -558,6 +603,7 @@ private:
                 compare(*library, card_load, "small card", {story.card()});
                 compare(*library, card_write, "small card written", {story.card_written()});
                 compare(*library, report, "small report", {story.report()});
+                compare(*library, rearrange, "small rearranging", in_every_order(story));
                 compare(*library, volume, "small volume", {story.volume(), layered(seed)});
                 compare(*library, count4, "small " + on_four_axes, {on_four});
                 compare_no(*library, {story.audit()});
@@ -587,6 +633,14 @@ private:
         if (!std::equal(cells.begin(), cells.end(), c.after.words.begin()))
             throw std::runtime_error("two textbook counts on four axes differ");
         return c;
+    }
+
+    static std::vector<Case> in_every_order(const Story &story)
+    {
+        std::vector<Case> result;
+        for (std::uint64_t order = 0; order < textbook::orders.size(); order++)
+            result.push_back(story.rearranging(order));
+        return result;
     }
 
     const std::vector<Story> &stories(Kind kind, std::size_t size, std::uint32_t scale)
@@ -681,6 +735,44 @@ private:
             return;
         std::vector<Case> asked = cases(kind, 512, TA_MAX_REFERENCE, std::mem_fn(tell));
         row(Row{call, name(kind), "512", {}, {}, {}, {}, {}}, task, batch, asked, nullptr, nullptr);
+    }
+
+    // All orders in turn, and in the same rounds the audit and the sorting alone.
+    void rearrangings(Kind kind, std::size_t size)
+    {
+        if (!wanted(rearranging))
+            return;
+        const std::size_t batch = 8;
+        std::vector<Case> asked;
+        for (const Story &story : stories(kind, size, TA_MAX_REFERENCE))
+            for (Case &c : in_every_order(story))
+                asked.push_back(std::move(c));
+        compare(archive, rearrange, rearranging, asked);
+        compare(yardstick, rearrange, rearranging, asked);
+        compare(archive, sort_anew, rearranging + " by std::sort", asked);
+        Contestant own = on_words(archive, rearrange, batch),
+                   other = on_words(yardstick, rearrange, batch),
+                   judging = on_words(archive, audit, batch),
+                   sorting = on_words(archive, sort_anew, batch);
+        measure({&own, &other, &judging, &sorting}, asked, effort);
+        std::string trials = std::to_string(size);
+        Row r{rearranging, name(kind), trials, own.samples, other.samples, {}, {}, {}};
+        print(r);
+        rows.push_back(r);
+        beside.push_back({r.set, r.trials, own.samples, judging.samples, sorting.samples});
+    }
+
+    void beside_the_audit() const
+    {
+        std::cout << "\nRearrange, all six orders in turn, and in the same rounds the audit of the "
+                     "same archives, which it contains, and the same words by std::sort in C++, "
+                     "with no check and no audit; µs, and the difference of the medians.\n\n"
+                     "| set | trials | rearrange, µs | audit, µs | over the audit, µs "
+                     "| std::sort, µs |\n|---|---|---|---|---|---|\n";
+        for (const Beside &b : beside)
+            std::cout << "| " << b.set << " | " << b.trials << " | " << spread(b.rearrange) << " | "
+                      << spread(b.audit) << " | " << number(b.over_the_audit()) << " | "
+                      << spread(b.sorting) << " |\n";
     }
 
     void volumes(Kind kind)
@@ -801,17 +893,17 @@ private:
     }
 
     // Targets. The worst row decides.
-    void target(const std::string &what, const std::vector<double> &ratios, bool at_most,
-                double bound) const
+    void target(const std::string &what, const std::vector<double> &figures, bool at_most,
+                double bound, const std::string &unit = "×") const
     {
-        if (ratios.empty())
+        if (figures.empty())
             return;
-        double worst = at_most ? *std::max_element(ratios.begin(), ratios.end())
-                               : *std::min_element(ratios.begin(), ratios.end());
+        double worst = at_most ? *std::max_element(figures.begin(), figures.end())
+                               : *std::min_element(figures.begin(), figures.end());
         bool met = at_most ? worst <= bound : worst >= bound;
         std::cout << "- " << (met ? "met: " : "missed: ") << what
-                  << (at_most ? " at most " : " at least ") << number(bound) << " ×; the worst is "
-                  << number(worst) << " ×\n";
+                  << (at_most ? " at most " : " at least ") << number(bound) << ' ' << unit
+                  << "; the worst is " << number(worst) << ' ' << unit << '\n';
     }
 
     void targets() const
@@ -841,6 +933,11 @@ private:
         };
         target(one_grid + " ÷ " + insertions, against_call(one_grid, insertions), true, 0.35);
         target(card_written + " ÷ " + one_report, against_call(card_written, one_report), true, 1);
+        std::vector<double> over_the_audit;
+        for (const Beside &b : beside)
+            if (b.trials == "512")
+                over_the_audit.push_back(b.over_the_audit());
+        target(rearranging + " at 512, over the audit", over_the_audit, true, 300, "µs");
         auto against_peer = [this](const std::string &call, const std::string &trials,
                                    bool uniform) {
             std::vector<double> ratios;
@@ -866,6 +963,7 @@ private:
     std::string only;
     std::map<std::tuple<Kind, std::size_t, std::uint32_t>, std::vector<Story>> told;
     std::vector<Row> rows;
+    std::vector<Beside> beside;
     std::vector<Distance> far;
 };
 

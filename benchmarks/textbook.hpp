@@ -138,6 +138,20 @@ inline Count front(const std::vector<Point> &points)
     }));
 }
 
+// The orders of the axes by their letters: which old axis comes first, second and third.
+inline const std::array<std::string, 6> orders{"xyz", "xzy", "yxz", "yzx", "zxy", "zyx"};
+
+// The old axis that comes at this place.
+inline std::size_t old_axis(std::uint64_t order, std::size_t place)
+{
+    return static_cast<std::size_t>(orders[order][place] - 'x');
+}
+
+inline Point rearranged(std::uint64_t order, Point p)
+{
+    return {p[old_axis(order, 0)], p[old_axis(order, 1)], p[old_axis(order, 2)]};
+}
+
 // Four axes: total and contributions, one behind the other, of any points, past the reference too.
 // The points cut the box into slices along w, and in each slice those passed are counted on the
 // three other axes. A point past the reference stands for one at it.

@@ -17,6 +17,8 @@ ta_answer rs_audit(const uint64_t *words, size_t len);
 ta_load_answer rs_card_load(uint64_t *words, size_t len, const uint8_t *card, size_t card_len);
 ta_answer rs_card_write(const uint64_t *words, size_t len, uint8_t *out, size_t out_len);
 ta_answer rs_report(const uint64_t *words, size_t len, uint8_t *out, size_t out_len);
+uint64_t rs_rearrange(const uint64_t *words, size_t len, uint64_t order, uint64_t *second,
+                      size_t second_len);
 ta_volume_answer rs_volume(ta_corner reference, const double *points, size_t len);
 }
 
