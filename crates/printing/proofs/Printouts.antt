@@ -24,7 +24,7 @@ use Rattle.card.proofs.Theorems as cards
 use Rattle.card.proofs.Theorems.{not-zero, cards-load}
 use Rattle.printing.specs.Printed.{refusal-line, shown, loaded, printed, PrintRoom, PrintsRead, Printing}
 use Rattle.printing.specs.Forms.{text-of}
-use Rattle.printing.specs.Cards.{LoadRoom, Holds, LoadsRead}
+use Rattle.printing.specs.Cards.{LoadRoom, LoadsRead}
 use Rattle.printing.proofs.Laid.{Laid, laid-column, laid-byte}
 use Rattle.printing.proofs.Texts.{Told, text-done}
 

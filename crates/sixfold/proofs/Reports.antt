@@ -102,6 +102,7 @@ module _ {w second old second′ out : List ℕ} {at order : ℕ} (r : Reporting
       → Reporting w second old (at + n) (order + 1) second″ out′
   unfolding reports-below
   reporting-more {n = n} below keeps stays done =
+      let behind = done .0 ∙ ap (λ k. put out k (report-in order (read w))) (sym (zero-add at)) in
       let enough : extent (word w 1) ≤ length second′ = r .enough in
       let room : 318 * 513 ≤ length old = r .room in
       let short : at ≤ 53 * 513 * order = r .short in
@@ -113,9 +114,7 @@ module _ {w second old second′ out : List ℕ} {at order : ℕ} (r : Reporting
         same-second = keeps ∙ r .same-second;
         same = stays ∙ r .same;
         short = short-again below (done .1);
-        written =
-            rw (add-one order)
-            (laid-more (r .written) (omega arith) (report-in order (read w)) n (sym (done .1)) (done .0 ∙ ap (λ k. put out k (report-in order (read w))) (sym (zero-add at))));
+        written = rw (add-one order) (laid-more (r .written) (omega arith) (report-in order (read w)) n (sym (done .1)) behind);
       }
 
   pub reporting-end : 6 ≤ order → (out ≡ put old 0 (six-text (read w))) × (at ≡ length (six-text (read w)))

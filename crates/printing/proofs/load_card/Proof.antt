@@ -23,14 +23,17 @@ same-length-2 c = search needs
 
 returns : tie.Need-returns
 returns c =
-    load-refused (c .before .before .before .before .before .before .before .before .before .before .before .before .before .before .pre) (c .before .before .before .before .before .before .before .before .read-card .ensures) (c .before .before .before .before .if1 .taken)
-    (c .before .before .put-refusal .ensures)
+    let room = c .before .before .before .before .before .before .before .before .before .before .before .before .before .before .pre in
+    let into = c .before .before .before .before .before .before .before .before .read-card .ensures in
+    load-refused room into (c .before .before .before .before .if1 .taken) (c .before .before .put-refusal .ensures)
 
 same-length-3 : tie.Need-same-length-3
 same-length-3 c = search needs
 
 returns-2 : tie.Need-returns-2
-returns-2 c = load-accepted (c .before .before .before .before .before .before .before .before .before .before .pre) (c .before .before .before .before .read-card .ensures) (c .if1 .left)
+returns-2 c =
+    let room = c .before .before .before .before .before .before .before .before .before .before .pre in
+    load-accepted room (c .before .before .before .before .read-card .ensures) (c .if1 .left)
 
 pub load-card-spec : {M : Type 1} → statement M
 load-card-spec =

@@ -30,8 +30,9 @@ same-length-2 c = search needs
 
 returns-2 : tie.Need-returns-2
 returns-2 c =
-    print-form _ _ (c .before .before .before .before .before .before .before .before .before .before .before .before .before .before .before .pre .1) (c .before .before .before .before .before .before .before .before .before .load-card .ensures) (c .before .before .before .before .before .if1 .left)
-    (c .before .before .write-text .ensures)
+    let asked = c .before .before .before .before .before .before .before .before .before .before .before .before .before .before .before .pre in
+    let loads = c .before .before .before .before .before .before .before .before .before .load-card .ensures in
+    print-form _ _ (asked .1) loads (c .before .before .before .before .before .if1 .left) (c .before .before .write-text .ensures)
 
 pub print-spec : {M : Type 1} → statement M
 print-spec =

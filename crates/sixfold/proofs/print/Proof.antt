@@ -32,7 +32,8 @@ slice-aggregate-put-six-2 c = search needs
 
 put-six-requires : tie.Need-put-six-requires
 put-six-requires c κs =
-    let passes = c .before .before .before .before .before .before .before .before .load-card .ensures .accepted (c .before .before .before .before .if1 .left) .0 .passes in
+    let loads = c .before .before .before .before .before .before .before .before .load-card .ensures in
+    let passes = loads .accepted (c .before .before .before .before .if1 .left) .0 .passes in
     (passes, enough-for _ passes (c .before .before .before .long-enough2 .ensures), search needs)
 
 same-length-2 : tie.Need-same-length-2
@@ -40,8 +41,9 @@ same-length-2 c = search needs
 
 returns-2 : tie.Need-returns-2
 returns-2 c =
-    print-text six-text _ (c .before .before .before .before .before .before .before .before .before .before .before .before .load-card .ensures) (c .before .before .before .before .before .before .before .before .if1 .left) (c .before .before .before .put-six .ensures .0)
-    (c .before .before .before .put-six .ensures .1)
+    let loads = c .before .before .before .before .before .before .before .before .before .before .before .before .load-card .ensures in
+    let six = c .before .before .before .put-six .ensures in
+    print-text six-text _ loads (c .before .before .before .before .before .before .before .before .if1 .left) (six .0) (six .1)
 
 pub print-spec : {M : Type 1} → statement M
 print-spec =

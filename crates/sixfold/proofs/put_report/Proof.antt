@@ -27,8 +27,8 @@ same-length-2 c = search needs
 
 returns : tie.Need-returns
 returns c =
-    report-put _ _ (c .before .before .before .before .before .before .before .before .before .before .before .before .pre .0) (c .before .before .before .before .before .before .before .before .before .before .before .before .pre .1) _ (c .before .before .before .before .before .before .before .write .ensures) _ _ (c .before .before .before .before .before .before .before .before .before .before .before .before .pre .3)
-    (c .before .before .report .ensures)
+    let asked = c .before .before .before .before .before .before .before .before .before .before .before .before .pre in
+    report-put _ _ (asked .0) (asked .1) _ (c .before .before .before .before .before .before .before .write .ensures) _ _ (asked .3) (c .before .before .report .ensures)
 
 pub put-report-spec : {M : Type 1} → statement M
 put-report-spec =

@@ -19,7 +19,9 @@ put-report-requires : tie.Need-put-report-requires Inv-loop μ-loop
 put-report-requires c κs = search needs
 
 add-at : tie.Need-add-at Inv-loop μ-loop
-add-at c = omega (arith, short-again (c .before .before .before .before .before .before .before .before .loop .inv) (omega arith) (c .before .before .before .before .put-report .ensures .1))
+add-at c =
+    let inv = c .before .before .before .before .before .before .before .before .loop .inv in
+    omega (arith, short-again inv (omega arith) (c .before .before .before .before .put-report .ensures .1))
 
 add-order : tie.Need-add-order Inv-loop μ-loop
 add-order c = omega arith
@@ -28,7 +30,9 @@ loop-less : tie.Need-loop-less Inv-loop μ-loop
 loop-less c = omega arith
 
 loop-again : tie.Need-loop-again Inv-loop μ-loop
-loop-again c = reporting-more (c .before .before .before .before .before .before .before .before .loop .inv) (omega arith) (omega arith) (omega arith) (c .before .before .before .before .put-report .ensures)
+loop-again c =
+    let inv = c .before .before .before .before .before .before .before .before .loop .inv in
+    reporting-more inv (omega arith) (omega arith) (omega arith) (c .before .before .before .before .put-report .ensures)
 
 same-length : tie.Need-same-length Inv-loop μ-loop
 same-length c = search needs
