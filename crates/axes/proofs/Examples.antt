@@ -1,7 +1,6 @@
 -- A point in the six orders, by computation.
-use Prim.Native.Nat.{ℕ}
 use mathlib.Core.Path.{_≡_, refl}
-use mathlib.Core.List.{List, _∷_, map, []}
+use mathlib.Core.List.{_∷_, map, []}
 use Rattle.axes.specs.Orders.{place-of, along, orders, letters, rearranged}
 
 in-six-orders : map (λ order. rearranged order (7 ∷ 8 ∷ 9 ∷ [])) (0 ∷ 1 ∷ 2 ∷ 3 ∷ 4 ∷ 5 ∷ [])

@@ -6,7 +6,7 @@ use mathlib.Core.Bool.{Bool, true, false, true≢false}
 use mathlib.Core.List.{List, _∷_, map, []}
 use native.Mathlib.Omega.{arith}
 use lib.Dec.{leb, ltb, eqb}
-use lib.ListN.{length, getD, length-map, List·getD-map}
+use lib.ListN.{length, getD, length-map}
 use borrow.Author.Tests.{leb-true, ltb-true, eqb-true}
 use Rattle.slices.specs.Choices.{both}
 use Rattle.slices.proofs.Choices.{both-true}

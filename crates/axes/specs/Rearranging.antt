@@ -9,7 +9,7 @@ use Rattle.words.specs.Layout.{word, extent, layout, read}
 use Rattle.words.specs.Format.{guard, archive-rows}
 use Rattle.calls.specs.Calls.{in-order, audited}
 use Rattle.calls.specs.Lent.{Outcome, leaves}
-use Rattle.axes.specs.Orders.{Axis, x, y, z, along, rearranged}
+use Rattle.axes.specs.Orders.{x, y, z, along, rearranged}
 
 -- "The archive, reference and trials rearranged." A trial keeps its number, and a shape its capacity.
 unfoldable pub rearranged-trial : (order : ℕ) → Trial → Trial

@@ -3,7 +3,7 @@ use hypervolume::Point;
 ghost use mathlib.Core.Path.{_≡_};
 ghost use Prim.Native.Nat.{_<_};
 ghost use lib.ListN.{getD};
-ghost use Rattle.axes.specs.Orders.{Axis, x, place-of, letters, rearranged};
+ghost use Rattle.axes.specs.Orders.{x, place-of, letters, rearranged};
 
 // Which old axis comes first, second and third: xyz, xzy, yxz, yzx, zxy, zyx.
 const ORDERS: [[usize; 3]; 6] = [

@@ -16,7 +16,7 @@ use Rattle.calls.proofs.Counted.{empty-counted}
 use Rattle.calls.proofs.Sound.{empty-sound}
 use Rattle.calls.proofs.Lent.{leaves-refusal, leaves-unrefused}
 use Rattle.history.specs.Book.{Book, book-turn, opened}
-use Rattle.history.specs.History.{Call, on-words, words-after, run-words, run-answers, request, run-book, book-answers, sorted, shape-of-book, fresh-archive, fresh, Agrees}
+use Rattle.history.specs.History.{Call, on-words, words-after, run-words, run-answers, request, run-book, book-answers, shape-of-book, fresh-archive, fresh, Agrees}
 use Rattle.history.specs.Terms.{opened-by}
 use Rattle.history.proofs.Thinning.{fresh-is}
 use Rattle.history.proofs.Steps.{Holds, Agree, fresh-length, holds-length, step}

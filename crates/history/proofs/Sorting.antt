@@ -1,19 +1,15 @@
 -- The book's trials in the archive's order: sorting commutes with striking out.
-use Prim.Native.Nat.{ℕ, suc}
+use Prim.Native.Nat.{ℕ}
 use mathlib.Core.Path.{_≡_, refl, sym, ap, _∙_}
 use mathlib.Core.Bool.{Bool, true, false}
 use mathlib.Core.Logic.{_⊎_, inl, inr}
-use mathlib.Core.List.{List, _∷_, map, List·Memᴰ, List·Memᴰ·head, List·Memᴰ·tail, List·Memᴰ·cases-cons, []}
-use native.Mathlib.Omega.{arith}
+use mathlib.Core.List.{List, _∷_, map, List·Memᴰ, List·Memᴰ·cases-cons, []}
 use lib.Dec.{eqb}
-use lib.ListN.{length}
-use borrow.Author.Tests.{not-true, eq-eqb, ne-eqb}
-use Rattle.hypervolume.specs.Counts.{cover}
+use borrow.Author.Tests.{eq-eqb, ne-eqb}
 use Rattle.hypervolume.proofs.Tests.{Equated, same, differs, equated}
 use Rattle.slices.proofs.Choices.{both-true}
-use Rattle.hypervolume.proofs.Counting.{SameCover}
-use Rattle.words.specs.Archive.{Trial, Row, trials, points, before}
-use Rattle.slices.specs.Choices.{pick, either}
+use Rattle.words.specs.Archive.{Trial, Row, trials, before}
+use Rattle.slices.specs.Choices.{pick}
 use Rattle.words.specs.Format.{held, distinct}
 use Rattle.calls.specs.Calls.{place, in-order, others}
 use Rattle.calls.proofs.Members.{map-map, map-id}

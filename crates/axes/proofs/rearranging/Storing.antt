@@ -1,7 +1,7 @@
 -- The words that a rearranging writes: records, zeros behind them, and the header.
 use Prim.Native.Nat.{ℕ, _+_, _-_, _*_, _%_, _≤_, _<_}
 use mathlib.Core.Path.{_≡_, refl, sym, ap, ap₂, _∙_}
-use mathlib.Core.List.{List, _∷_, _++_, map, map-append, append-nil, []}
+use mathlib.Core.List.{List, _∷_, _++_, map-append, append-nil, []}
 use native.Mathlib.Numerals.{add-one}
 use native.Mathlib.Omega.{arith}
 use lib.ListN.{length, take, drop, getD, replicate, length-append, length-map, length-replicate}

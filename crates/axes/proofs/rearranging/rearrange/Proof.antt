@@ -3,7 +3,7 @@ use Prim.Native.Nat.{ℕ}
 use mathlib.Core.Path.{_≡_, sym, ap, _∙_}
 use mathlib.Core.List.{List}
 use Rattle.calls.specs.Lent.{Outcome}
-use Rattle.axes.proofs.Rows.{Rearrangeable, rearrangeable, refused, done}
+use Rattle.axes.proofs.Rows.{rearrangeable, refused, done}
 use borrow.Author.Needs.{needs}
 use Rattle.axes.proofs.rearranging.rearrange.Statement.{statement}
 use Rattle.axes.proofs.rearranging.rearrange.Tie as tie

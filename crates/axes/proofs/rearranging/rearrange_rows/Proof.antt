@@ -1,5 +1,4 @@
 -- `rearrange_rows` meets its contract: each way out in turn.
-use Prim.Native.Nat.{_≤_}
 use mathlib.Core.Path.{_≡_, sym, _∙_}
 use native.Mathlib.Omega.{arith}
 use denote.Ref.{now}
