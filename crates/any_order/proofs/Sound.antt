@@ -5,7 +5,7 @@ use mathlib.Core.Bool.{Bool, true}
 use mathlib.Core.List.{List, _∷_, map, List·Memᴰ, Memᴰ·of-map, []}
 use native.Mathlib.Omega.{arith}
 use lib.Dec.{eqb}
-use lib.ListN.{length, length-map}
+use lib.ListN.{length}
 use Rattle.slices.specs.Choices.{both, either}
 use Rattle.slices.proofs.Choices.{both-turn}
 use Rattle.hypervolume.specs.Cells.{box}
@@ -17,12 +17,13 @@ use Rattle.words.proofs.Passed.{Sound, RowBounds}
 use Rattle.calls.specs.Calls.{held-trials, in-order}
 use Rattle.calls.proofs.Members.{map-map}
 use Rattle.calls.proofs.Order.{ascending-ordered}
-use Rattle.calls.proofs.InOrder.{in-order-length, in-order-member, in-order-trials, in-order-distinct, in-order-ascending}
+use Rattle.calls.proofs.InOrder.{in-order-member, in-order-trials, in-order-distinct, in-order-ascending}
 use Rattle.calls.proofs.Sound.{rows-each, each-rows}
 use Rattle.axes.specs.Orders.{place-of, along, rearranged}
 use Rattle.axes.specs.Rearranging.{rearranged-trial, rearranged-shape, rearranged-row, rearranged-archive}
 use Rattle.axes.proofs.Swaps.{three-of, swaps, swaps-here, rearranged-swaps, length-rearranged}
 use Rattle.axes.proofs.Arrangements.{point-rearranged}
+use Rattle.axes.proofs.Rows.{rearranged-count}
 
 -- A test that every coordinate meets is met in any order.
 each-swap : (test : ℕ → Bool) (k : ℕ) (p : List ℕ) → k + 2 ≤ length p → each test (swap-at k p) ≡ each test p
@@ -50,12 +51,7 @@ trials-rearranged order a =
     in-order-trials (map (rearranged-row order) (a .rows))
     ∙ ap (in-order (λ t. t)) (map-map (rearranged-row order) (λ r. r .trial) (a .rows) ∙ sym (map-map (λ r. r .trial) (rearranged-trial order) (a .rows)))
 
--- Its records are as many, and each is one of the archive's, rearranged.
-rearranged-count : (order : ℕ) (a : Archive) → length (rearranged-archive order a .rows) ≡ length (a .rows)
-unfolding rearranged-archive
-rearranged-count order a =
-    in-order-length (λ r. r .trial) (map (rearranged-row order) (a .rows)) ∙ length-map (a .rows) (rearranged-row order)
-
+-- Each of its records is one of the archive's, rearranged.
 pub row-from : (order : ℕ) (a : Archive) (r : Row) → List·Memᴰ r (rearranged-archive order a .rows) → (q : Row) × List·Memᴰ q (a .rows) × (rearranged-row order q ≡ r)
 unfolding rearranged-archive
 row-from order a r m = Memᴰ·of-map (rearranged-row order) (a .rows) (in-order-member (λ q. q .trial) r (map (rearranged-row order) (a .rows)) m)

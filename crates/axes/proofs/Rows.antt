@@ -7,6 +7,7 @@ use native.Mathlib.Omega.{arith}
 use lib.Dec.{ltb}
 use lib.ListN.{length, drop, length-map}
 use borrow.Author.Tests.{lt-ltb, le-ltb, ltb-false, not-false}
+use Rattle.words.specs.Archive.{Archive}
 use Rattle.words.specs.Layout.{word, extent, layout, read, read-shape}
 use Rattle.words.specs.Format.{guard, archive-rows}
 use Rattle.words.proofs.Reading.{length-layout}
@@ -70,11 +71,14 @@ pub rearranges : {w : List ℕ} {order room : ℕ} → Rearrangeable w order roo
 unfolding extent
 rearranges {w} {order} {room} h = sym (no-row w order room (h .passes) (let low : order ≤ 5 = omega (arith, h .known) in low) true (sym (h .counted)) refl (h .long))
 
--- The archive rearranged takes as many words.
-pub rearranged-many : (w : List ℕ) (order : ℕ) → length (rearranged-archive order (read w) .rows) ≡ word w 0
+-- The archive rearranged has as many records, and takes as many words.
+pub rearranged-count : (order : ℕ) (a : Archive) → length (rearranged-archive order a .rows) ≡ length (a .rows)
 unfolding rearranged-archive
-rearranged-many w order =
-    in-order-length (λ r. r .trial) (map (rearranged-row order) (read w .rows)) ∙ length-map (read w .rows) (rearranged-row order) ∙ count-rows w
+rearranged-count order a =
+    in-order-length (λ r. r .trial) (map (rearranged-row order) (a .rows)) ∙ length-map (a .rows) (rearranged-row order)
+
+pub rearranged-many : (w : List ℕ) (order : ℕ) → length (rearranged-archive order (read w) .rows) ≡ word w 0
+rearranged-many w order = rearranged-count order (read w) ∙ count-rows w
 
 pub rearranged-long : (w : List ℕ) (order : ℕ) → archive-rows w 0 ≡ 0 → length (layout (rearranged-archive order (read w))) ≡ extent (word w 1)
 unfolding rearranged-archive rearranged-shape read read-shape

@@ -3,8 +3,9 @@
 use crate::arranging::arrange;
 use crate::orders::rearranged;
 use ask::audited;
+use records::put_record;
 use slices::clear;
-use slices::copy;
+use words::Record;
 use words::Shape;
 use words::put_header;
 use words::record_at;
@@ -22,19 +23,16 @@ ghost use Rattle.axes.specs.Rearranging.{rearranged-row, rearranged-shap
 ghost use Rattle.axes.specs.Arranging.{rows-by, Named};
 
 // Writes the record at a place, rearranged, as record i of the second slice.
-fn put_record(w: &[u64], order: usize, place: usize, second: &mut [u64], i: usize)
+fn put_row(w: &[u64], order: usize, place: usize, second: &mut [u64], i: usize)
     requires { ⌜ (archive-rows (now w) 0 ≡ 0) × (order < 6) × (place < word (now w) 0) × (i < word (now w) 0) × (8 + 5 * word (now w) 0 ≤ length (now second)) ⌝ }
     ensures { λ _. ⌜ now (second .exit) ≡ put (now (second .entry)) (8 + 5 * i) (record-words (rearranged-row order (row-at (now (w .entry)) place))) ⌝ }
 {
-    let p = rearranged(record_at(w, place).point, order).at;
-    let five = [
-        w[8 + 5 * place],
-        p[0] as u64,
-        p[1] as u64,
-        p[2] as u64,
-        w[12 + 5 * place],
-    ];
-    copy(&five, second, 8 + 5 * i);
+    let new = Record {
+        number: w[8 + 5 * place],
+        point: rearranged(record_at(w, place).point, order),
+        kept: w[12 + 5 * place],
+    };
+    put_record(second, 8 + 5 * i, new);
 }
 
 // Writes the records that the keys name, rearranged, one behind the other.
@@ -44,7 +42,7 @@ fn put_records(w: &[u64], order: usize, keys: &[u32], second: &mut [u64])
 {
     let mut i = 0;
     while i < keys.len() {
-        put_record(w, order, (keys[i] % 512) as usize, second, i);
+        put_row(w, order, (keys[i] % 512) as usize, second, i);
         i += 1;
     }
 }

@@ -1,19 +1,20 @@
 -- Words that are a header, records and what lies behind them: records put into them and read again, and the layout that
 -- an update leaves.
-use Prim.Native.Nat.{ℕ, _+_, _-_, _*_, _≤_}
+use Prim.Native.Nat.{ℕ, _+_, _-_, _*_, _≤_, _<_}
 use mathlib.Core.Path.{_≡_, refl, sym, ap, ap₂, _∙_}
-use mathlib.Core.List.{List, _++_, append-assoc}
+use mathlib.Core.List.{List, _∷_, _++_, append-nil, append-assoc, []}
+use native.Mathlib.Numerals.{add-one}
 use native.Mathlib.Omega.{arith}
-use lib.ListN.{length, take, drop, set, replicate, length-append, length-replicate, replicate-append-replicate}
-use lib.Seq.{take-at, drop-at, drop-drop}
+use lib.ListN.{length, take, drop, getD, set, replicate, length-append, length-replicate, replicate-append-replicate}
+use lib.Seq.{take-at, drop-at, drop-drop, length-take-le, take-suc}
 use Rattle.slices.specs.Put.{put}
-use Rattle.slices.proofs.Put.{drop-put}
+use Rattle.slices.proofs.Put.{drop-put, put-then}
 use Rattle.words.specs.Archive.{Row, Archive}
-use Rattle.words.specs.Layout.{header, records, layout, read-rows, read-shape, read, word, behind}
+use Rattle.words.specs.Layout.{header, record-words, records, layout, read-rows, read-shape, read, word, behind}
 use Rattle.words.specs.Places.{rows-before}
 use Rattle.hypervolume.specs.Front.{front}
 use Rattle.words.specs.Format.{archive-rows}
-use Rattle.words.proofs.Reading.{length-records, read-records, read-layout, behind-layout}
+use Rattle.words.proofs.Reading.{length-records, records-append, read-records, read-layout, behind-layout}
 use Rattle.words.proofs.Passed.{Passed, Sound, passed, sound-passes}
 use Rattle.calls.specs.Calls.{held-points, renewed}
 use Rattle.calls.proofs.Known.{count-rows}
@@ -26,6 +27,23 @@ rows-put w rows rest n room e =
     ap (read-rows n) (drop-put w 8 (records rows ++ rest) room ∙ append-assoc (records rows) rest (drop (8 + length (records rows ++ rest)) w))
     ∙ ap (λ m. read-rows m (records rows ++ (rest ++ drop (8 + length (records rows ++ rest)) w))) (sym e)
     ∙ read-records rows (rest ++ drop (8 + length (records rows ++ rest)) w)
+
+-- One record more, put behind those that are put from word 8 on.
+pub row-put : (old now after : List ℕ) (rows : List Row) (i : ℕ) (d : Row) → i < length rows → 8 + 5 * length rows ≤ length old
+    → now ≡ put old 8 (records (take i rows)) → after ≡ put now (8 + 5 * i) (record-words (getD rows i d))
+    → after ≡ put old 8 (records (take (i + 1) rows))
+unfolding records
+row-put old now after rows i d l room is e =
+    let size : length (records (take i rows)) ≡ 5 * i = length-records (take i rows) ∙ ap (λ m. 5 * m) (length-take-le i rows (omega arith)) in
+    let grown : records (take i rows) ++ record-words (getD rows i d) ≡ records (take (i + 1) rows) =
+    sym
+    (ap records (ap (λ m. take m rows) (add-one i) ∙ take-suc rows i d l)
+    ∙ records-append (take i rows) (getD rows i d ∷ [])
+    ∙ ap (λ x. records (take i rows) ++ x) (append-nil (record-words (getD rows i d)))) in
+    e
+    ∙ ap₂ (λ x m. put x (8 + m) (record-words (getD rows i d))) is (sym size)
+    ∙ put-then old 8 (records (take i rows)) (record-words (getD rows i d)) (omega arith)
+    ∙ ap (put old 8) grown
 
 length-header : (a : Archive) → length (header a) ≡ 8
 unfolding header

@@ -1,30 +1,32 @@
 -- The words that a rearranging writes: records, zeros behind them, and the header.
 use Prim.Native.Nat.{ℕ, _+_, _-_, _*_, _%_, _≤_, _<_}
 use mathlib.Core.Path.{_≡_, refl, sym, ap, ap₂, _∙_}
-use mathlib.Core.List.{List, _∷_, _++_, map-append, append-nil, []}
-use native.Mathlib.Numerals.{add-one}
+use mathlib.Core.List.{List, _++_}
 use native.Mathlib.Omega.{arith}
 use lib.ListN.{length, take, drop, getD, replicate, length-append, length-map, length-replicate}
-use lib.Seq.{length-take-le, take-suc, take-all}
+use lib.Seq.{take-all}
 use Rattle.slices.specs.Put.{put}
 use Rattle.slices.proofs.Put.{put-none, put-then, put-ahead, put-front}
-use Rattle.words.specs.Archive.{Row, Shape, Archive, point, reference}
+use Rattle.sweep.proofs.Front.{getD-mapped}
+use Rattle.words.specs.Archive.{Shape, Archive, point, reference}
 use Rattle.words.specs.Layout.{word, header-words, header, record-words, records, extent, layout, read, read-shape}
 use Rattle.words.specs.Format.{archive-rows}
-use Rattle.words.specs.Places.{row-at}
+use Rattle.words.specs.Places.{as-trial, row-at}
 use Rattle.words.proofs.Places.{row-at-words, row-at-number}
-use Rattle.words.proofs.Reading.{length-records, records-append}
+use Rattle.words.proofs.Reading.{length-records}
 use Rattle.calls.proofs.Known.{known}
+use Rattle.records.proofs.RowAt.{blank}
+use Rattle.records.proofs.Stored.{row-put}
 use Rattle.axes.specs.Orders.{place-of, along, rearranged}
 use Rattle.axes.specs.Rearranging.{rearranged-trial, rearranged-row, rearranged-shape, rearranged-archive}
 use Rattle.axes.specs.Arranging.{rows-by, Arranged}
 use Rattle.axes.proofs.Rows.{rearranged-many}
 
--- The words of a record and a shape with their coordinates rearranged.
-pub words-rearranged : (order : ℕ) (w : List ℕ) (place : ℕ) (p : List ℕ) → p ≡ rearranged order (point (row-at w place .trial))
-    → word w (8 + 5 * place) ∷ getD p 0 0 ∷ getD p 1 0 ∷ getD p 2 0 ∷ word w (12 + 5 * place) ∷ [] ≡ record-words (rearranged-row order (row-at w place))
-unfolding record-words rearranged-row rearranged-trial along place-of
-words-rearranged order w place p e =
+-- A record and a shape with their coordinates rearranged.
+pub row-rearranged : (order : ℕ) (w : List ℕ) (place : ℕ) (p : List ℕ) → p ≡ rearranged order (point (row-at w place .trial))
+    → record { trial = as-trial (word w (8 + 5 * place)) p; kept = word w (12 + 5 * place) } ≡ rearranged-row order (row-at w place)
+unfolding rearranged-row rearranged-trial along place-of
+row-rearranged order w place p e =
     let kept : word w (12 + 5 * place) ≡ row-at w place .kept =
     ap (word w) (let at : 12 + 5 * place ≡ 8 + 5 * place + 4 = omega arith in at) ∙ ap (λ r. r .kept) (row-at-words w place) in
     rw (e, kept, ← row-at-number w place)
@@ -39,46 +41,36 @@ shape-rearranged order s p e = rw e
 pub record RecordsPut (w : List ℕ) (order : ℕ) (keys old : List ℕ) (i : ℕ) (now : List ℕ) : Type 0 where
   pub part : i ≤ length keys
   pub long : length now ≡ length old
-  pub is : now ≡ put old 8 (records (rows-by w order (take i keys)))
+  pub is : now ≡ put old 8 (records (take i (rows-by w order keys)))
 
 pub records-none : (w : List ℕ) (order : ℕ) (keys old : List ℕ) → RecordsPut w order keys old 0 old
-unfolding rows-by records
+unfolding records
 records-none w order keys old = record { part = omega arith; long = refl; is = sym (put-none old 8) }
 
 length-rows : (w : List ℕ) (order : ℕ) (keys : List ℕ) → length (rows-by w order keys) ≡ length keys
 unfolding rows-by
 length-rows w order keys = length-map keys _
 
-rows-next : (w : List ℕ) (order : ℕ) (keys : List ℕ) (i : ℕ) → i < length keys
-    → rows-by w order (take (i + 1) keys) ≡ rows-by w order (take i keys) ++ (rearranged-row order (row-at w (getD keys i 0 % 512)) ∷ [])
+row-by : (w : List ℕ) (order : ℕ) (keys : List ℕ) (i : ℕ) → i < length keys → getD (rows-by w order keys) i blank ≡ rearranged-row order (row-at w (getD keys i 0 % 512))
 unfolding rows-by
-rows-next w order keys i l =
-    ap (rows-by w order) (ap (λ n. take n keys) (add-one i) ∙ take-suc keys i 0 l)
-    ∙ map-append (λ key. rearranged-row order (row-at w (key % 512))) (take i keys) (getD keys i 0 ∷ [])
+row-by w order keys i l = getD-mapped (λ key. rearranged-row order (row-at w (key % 512))) 0 blank keys i l
 
 pub records-more : {w : List ℕ} {order : ℕ} {keys old : List ℕ} {i : ℕ} {now : List ℕ} (after : List ℕ) → RecordsPut w order keys old i now → i < length keys
     → 8 + 5 * length keys ≤ length old
     → after ≡ put now (8 + 5 * i) (record-words (rearranged-row order (row-at w (getD keys i 0 % 512)))) → length after ≡ length now
     → RecordsPut w order keys old (i + 1) after
-unfolding records
-records-more {w} {order} {keys} {old} {i} {now} after h l room f same =
-    let before : List Row = rows-by w order (take i keys) in
-    let r : Row = rearranged-row order (row-at w (getD keys i 0 % 512)) in
-    let size : length (records before) ≡ 5 * i =
-    length-records before ∙ ap (λ m. 5 * m) (length-rows w order (take i keys) ∙ length-take-le i keys (omega arith)) in
+records-more {w} {order} {keys} {old} {i} {now} after h l room e same =
     record {
       part = omega arith;
       long = same ∙ h .long;
       is =
-          f
-          ∙ ap₂ (λ x m. put x (8 + m) (record-words r)) (h .is) (sym size)
-          ∙ put-then old 8 (records before) (record-words r) (omega arith)
-          ∙ ap (put old 8)
-          (sym (ap records (rows-next w order keys i l) ∙ records-append before (r ∷ []) ∙ ap (λ x. records before ++ x) (append-nil (record-words r))));
+          row-put old now after (rows-by w order keys) i blank (omega (arith, length-rows w order keys)) (omega (arith, length-rows w order keys)) (h .is)
+          (e ∙ ap (λ r. put now (8 + 5 * i) (record-words r)) (sym (row-by w order keys i l)));
     }
 
 pub records-end : {w : List ℕ} {order : ℕ} {keys old : List ℕ} {i : ℕ} {now : List ℕ} → RecordsPut w order keys old i now → length keys ≤ i → now ≡ put old 8 (records (rows-by w order keys))
-records-end {w} {order} {keys} {old} {i} {now} h l = h .is ∙ ap (λ k. put old 8 (records (rows-by w order k))) (take-all i keys l)
+records-end {w} {order} {keys} {old} {i} {now} h l =
+    h .is ∙ ap (λ rows. put old 8 (records rows)) (take-all i (rows-by w order keys) (omega (arith, length-rows w order keys)))
 
 -- ---- the whole
 

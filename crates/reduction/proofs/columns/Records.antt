@@ -1,19 +1,18 @@
 -- The loop that writes records from their columns.
 use Prim.Native.Nat.{ℕ, _+_, _*_, _≤_, _<_}
-use mathlib.Core.Path.{_≡_, refl, sym, ap, ap₂, _∙_}
-use mathlib.Core.List.{List, _∷_, _++_, append-nil, []}
-use native.Mathlib.Numerals.{add-one}
+use mathlib.Core.Path.{_≡_, refl, sym, ap, _∙_}
+use mathlib.Core.List.{List, []}
 use native.Mathlib.Omega.{arith}
 use lib.ListN.{length, take, getD}
-use lib.Seq.{length-take-le, take-suc, take-all, getD-take}
+use lib.Seq.{take-all, getD-take}
 use Rattle.slices.specs.Put.{put}
-use Rattle.slices.proofs.Put.{put-none, put-then}
+use Rattle.slices.proofs.Put.{put-none}
 use Rattle.words.specs.Archive.{Row, point}
 use Rattle.words.specs.Layout.{record-words, records}
 use Rattle.words.specs.Places.{as-trial}
-use Rattle.words.proofs.Reading.{length-records, records-append}
 use Rattle.records.proofs.HeldPoints.{points-at}
 use Rattle.records.proofs.RowAt.{blank}
+use Rattle.records.proofs.Stored.{row-put}
 use Rattle.reduction.specs.Columns.{RowsInColumns}
 use Rattle.reduction.proofs.columns.Ranking.{number-in, kept-in}
 
@@ -59,19 +58,9 @@ records-more {old} {n} {numbers} {coordinates} {kept} {i} {now} after p h l room
     next rows g =
         let many : length rows ≡ n = g .many in
         let r = getD rows i blank in
-        let size : length (records (take i rows)) ≡ 5 * i = length-records (take i rows) ∙ ap (λ m. 5 * m) (length-take-le i rows (omega arith)) in
         let words : record-words (row-from (getD numbers i 0) p (getD kept i 0)) ≡ record-words r =
         ap record-words (ap (λ x. row-from (getD numbers i 0) x (getD kept i 0)) ep ∙ row-same r _ _ _ (row-in i g l)) in
-        let grown : records (take i rows) ++ record-words r ≡ records (take (i + 1) rows) =
-        sym
-        (ap records (ap (λ m. take m rows) (add-one i) ∙ take-suc rows i blank (omega arith))
-        ∙ records-append (take i rows) (r ∷ [])
-        ∙ ap (λ x. records (take i rows) ++ x) (append-nil (record-words r))) in
-        e
-        ∙ ap₂ (λ x m. put x (8 + m) (record-words (row-from (getD numbers i 0) p (getD kept i 0)))) (h .is rows g) (sym size)
-        ∙ put-then old 8 (records (take i rows)) (record-words (row-from (getD numbers i 0) p (getD kept i 0))) (omega arith)
-        ∙ ap (λ x. put old 8 (records (take i rows) ++ x)) words
-        ∙ ap (put old 8) grown
+        row-put old now after rows i blank (omega arith) (omega arith) (h .is rows g) (e ∙ ap (put now (8 + 5 * i)) words)
 
 pub records-end : {old : List ℕ} {n : ℕ} {numbers : List ℕ} {coordinates : List (List ℕ)} {kept : List ℕ} {i : ℕ} {now : List ℕ} → RecordsPut old n numbers coordinates kept i now → n ≤ i
     → (rows : List Row) → RowsInColumns rows n numbers coordinates kept → now ≡ put old 8 (records rows)

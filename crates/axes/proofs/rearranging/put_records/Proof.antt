@@ -20,17 +20,17 @@ loop-holds c = records-none _ _ _ _
 few : (c : tie.In-loop Inv-loop μ-loop) → c .before .loop .i < 512
 few c = omega (arith, c .loop-test .taken, c .before .before .before .before .before .pre .2 .many, known _ (c .before .before .before .before .before .pre .0) .few)
 
-mul-put-record : tie.Need-mul-put-record Inv-loop μ-loop
-mul-put-record c = omega (arith, few c)
+mul-put-row : tie.Need-mul-put-row Inv-loop μ-loop
+mul-put-row c = omega (arith, few c)
 
-shared-slice-read-put-record : tie.Need-shared-slice-read-put-record Inv-loop μ-loop
-shared-slice-read-put-record c = c .before .loop-test .taken
+shared-slice-read-put-row : tie.Need-shared-slice-read-put-row Inv-loop μ-loop
+shared-slice-read-put-row c = c .before .loop-test .taken
 
-cast-put-record : tie.Need-cast-put-record Inv-loop μ-loop
-cast-put-record c = omega arith
+cast-put-row : tie.Need-cast-put-row Inv-loop μ-loop
+cast-put-row c = omega arith
 
-put-record-requires : tie.Need-put-record-requires Inv-loop μ-loop
-put-record-requires c κs =
+put-row-requires : tie.Need-put-row-requires Inv-loop μ-loop
+put-row-requires c κs =
     let start = c .before .before .before .before .before .before .before in
     let turn = c .before .before in
     (start .pre .0, start .pre .1, named-at (start .pre .2) (turn .loop-test .taken), omega (arith, turn .loop-test .taken, start .pre .2 .many), omega (arith, turn .before .loop .inv .long, start .pre .3))
@@ -44,7 +44,7 @@ loop-less c = omega (arith, c .before .before .before .before .before .loop-test
 loop-again : tie.Need-loop-again Inv-loop μ-loop
 loop-again c =
     let start = c .before .before .before .before .before .before .before .before .before .before in
-    records-more _ (c .before .before .before .before .before .before .loop .inv) (c .before .before .before .before .before .loop-test .taken) (omega (arith, start .pre .2 .many, start .pre .3)) (c .before .before .put-record .ensures) (c .before .before .put-record .kept .1 .1 .1 .0)
+    records-more _ (c .before .before .before .before .before .before .loop .inv) (c .before .before .before .before .before .loop-test .taken) (omega (arith, start .pre .2 .many, start .pre .3)) (c .before .before .put-row .ensures) (c .before .before .put-row .kept .1 .1 .1 .0)
 
 same-length : tie.Need-same-length Inv-loop μ-loop
 same-length c = c .before .loop .inv .long
@@ -59,10 +59,10 @@ put-records-spec =
     Inv-loop
     μ-loop
     loop-holds
-    mul-put-record
-    shared-slice-read-put-record
-    cast-put-record
-    put-record-requires
+    mul-put-row
+    shared-slice-read-put-row
+    cast-put-row
+    put-row-requires
     add-i
     loop-less
     loop-again
