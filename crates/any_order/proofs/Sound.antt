@@ -8,102 +8,102 @@ use native.Mathlib.Omega.{arith}
 use lib.Dec.{eqb}
 use lib.ListN.{length}
 use Rattle.slices.specs.Choices.{both, either}
-use Rattle.slices.proofs.Choices.{both-turn}
+use Rattle.slices.proofs.Choices.{both_turn}
 use Rattle.hypervolume.specs.Cells.{box}
 use Rattle.hypervolume.proofs.Dominance.{first, rest}
-use Rattle.hypervolume.proofs.Axes.{swap_at, swaps-keep, box-swaps}
+use Rattle.hypervolume.proofs.Axes.{swap_at, swaps_keep, box_swaps}
 use Rattle.words.specs.Archive.{Trial, Row, Shape, Archive, point, reference, trials}
-use Rattle.words.specs.Format.{each, within, shape-allowed, coordinates-allowed, held, distinct}
+use Rattle.words.specs.Format.{each, within, shape_allowed, coordinates_allowed, held, distinct}
 use Rattle.words.proofs.Passed.{Sound, RowBounds}
-use Rattle.calls.specs.Calls.{held-trials, in_order}
+use Rattle.calls.specs.Calls.{held_trials, in_order}
 use Rattle.calls.proofs.Members.{map-map}
-use Rattle.calls.proofs.Order.{ascending-ordered}
-use Rattle.calls.proofs.InOrder.{in-order-member, in-order-trials, in-order-distinct, in-order-ascending}
-use Rattle.calls.proofs.Sound.{rows-each, each_rows}
+use Rattle.calls.proofs.Order.{ascending_ordered}
+use Rattle.calls.proofs.InOrder.{in_order_member, in_order_trials, in_order_distinct, in_order_ascending}
+use Rattle.calls.proofs.Sound.{rows_each, each_rows}
 use Rattle.axes.specs.Orders.{place_of, along, rearranged}
-use Rattle.axes.specs.Rearranging.{rearranged-trial, rearranged-shape, rearranged-row, rearranged-archive}
-use Rattle.axes.proofs.Swaps.{three-of, swaps, swaps-here, rearranged-swaps, length-rearranged}
-use Rattle.axes.proofs.Arrangements.{point-rearranged}
-use Rattle.axes.proofs.Rows.{rearranged-count}
+use Rattle.axes.specs.Rearranging.{rearranged_trial, rearranged_shape, rearranged_row, rearranged_archive}
+use Rattle.axes.proofs.Swaps.{three_of, swaps, swaps_here, rearranged_swaps, length_rearranged}
+use Rattle.axes.proofs.Arrangements.{point_rearranged}
+use Rattle.axes.proofs.Rows.{rearranged_count}
 
 -- A test that every coordinate meets is met in any order.
-each-swap : (test : ℕ → Bool) (k : ℕ) (p : List ℕ) → k + 2 ≤ length p → each test (swap_at k p) ≡ each test p
+each_swap : (test : ℕ → Bool) (k : ℕ) (p : List ℕ) → k + 2 ≤ length p → each test (swap_at k p) ≡ each test p
 unfolding swap_at first rest each
-each-swap test k [] l = absurd (let no' : ⊥ = omega arith in no')
-each-swap test zero (a ∷ []) l = absurd (let no' : ⊥ = omega arith in no')
-each-swap test zero (a ∷ b ∷ p) l = both-turn (test b) (test a) (each test p)
-each-swap test (suc k) (a ∷ p) l = ap (both (test a)) (each-swap test k p (omega arith))
+each_swap test k [] l = absurd (let no' : ⊥ = omega arith in no')
+each_swap test zero (a ∷ []) l = absurd (let no' : ⊥ = omega arith in no')
+each_swap test zero (a ∷ b ∷ p) l = both_turn (test b) (test a) (each test p)
+each_swap test (suc k) (a ∷ p) l = ap (both (test a)) (each_swap test k p (omega arith))
 
 -- A trial keeps its number, so the same numbers are held, and none twice.
-pub held-rearranged : (order n : ℕ) (ts : List Trial) → held n (map (rearranged-trial order) ts) ≡ held n ts
-unfolding held rearranged-trial
-held-rearranged order n [] = refl
-held-rearranged order n (t ∷ ts) = ap (either (eqb t.number n)) (held-rearranged order n ts)
+pub held_rearranged : (order n : ℕ) (ts : List Trial) → held n (map (rearranged_trial order) ts) ≡ held n ts
+unfolding held rearranged_trial
+held_rearranged order n [] = refl
+held_rearranged order n (t ∷ ts) = ap (either (eqb t.number n)) (held_rearranged order n ts)
 
-distinct-rearranged : (order : ℕ) (ts : List Trial) → distinct (map (rearranged-trial order) ts) ≡ distinct ts
-unfolding distinct rearranged-trial
-distinct-rearranged order [] = refl
-distinct-rearranged order (t ∷ ts) = rw (held-rearranged order t.number ts, distinct-rearranged order ts)
+distinct_rearranged : (order : ℕ) (ts : List Trial) → distinct (map (rearranged_trial order) ts) ≡ distinct ts
+unfolding distinct rearranged_trial
+distinct_rearranged order [] = refl
+distinct_rearranged order (t ∷ ts) = rw (held_rearranged order t.number ts, distinct_rearranged order ts)
 
 -- The trials of an archive rearranged are its trials rearranged, in order.
-pub trials-rearranged : (order : ℕ) (a : Archive) → held-trials (rearranged-archive order a) ≡ in_order (λ t. t) (map (rearranged-trial order) (held-trials a))
-unfolding rearranged-archive rearranged-row trials
-trials-rearranged order a =
-    in-order-trials (map (rearranged-row order) a.rows)
-    ∙ ap (in_order (λ t. t)) (map-map (rearranged-row order) (λ r. r.trial) a.rows ∙ sym (map-map (λ r. r.trial) (rearranged-trial order) a.rows))
+pub trials_rearranged : (order : ℕ) (a : Archive) → held_trials (rearranged_archive order a) ≡ in_order (λ t. t) (map (rearranged_trial order) (held_trials a))
+unfolding rearranged_archive rearranged_row trials
+trials_rearranged order a =
+    in_order_trials (map (rearranged_row order) a.rows)
+    ∙ ap (in_order (λ t. t)) (map-map (rearranged_row order) (λ r. r.trial) a.rows ∙ sym (map-map (λ r. r.trial) (rearranged_trial order) a.rows))
 
 -- Each of its records is one of the archive's, rearranged.
-pub row_from : (order : ℕ) (a : Archive) (r : Row) → Memᴰ r (rearranged-archive order a).rows → (q : Row) × Memᴰ q a.rows × (rearranged-row order q ≡ r)
-unfolding rearranged-archive
-row_from order a r m = Memᴰ.of_map (rearranged-row order) a.rows (in-order-member (λ q. q.trial) r (map (rearranged-row order) a.rows) m)
+pub row_from : (order : ℕ) (a : Archive) (r : Row) → Memᴰ r (rearranged_archive order a).rows → (q : Row) × Memᴰ q a.rows × (rearranged_row order q ≡ r)
+unfolding rearranged_archive
+row_from order a r m = Memᴰ.of_map (rearranged_row order) a.rows (in_order_member (λ q. q.trial) r (map (rearranged_row order) a.rows) m)
 
 module _ (order : ℕ) (known : order < 6) where
-  pub reference-rearranged : (s : Shape) → reference (rearranged-shape order s) ≡ rearranged order (reference s)
-  unfolding rearranged-shape along place_of
-  reference-rearranged s = sym (three-of 0 (rearranged order (reference s)) (length-rearranged order known (reference s) refl))
+  pub reference_rearranged : (s : Shape) → reference (rearranged_shape order s) ≡ rearranged order (reference s)
+  unfolding rearranged_shape along place_of
+  reference_rearranged s = sym (three_of 0 (rearranged order (reference s)) (length_rearranged order known (reference s) refl))
 
-  each-rearranged : (test : ℕ → Bool) (p : List ℕ) → length p ≡ 3 → each test (rearranged order p) ≡ each test p
-  each-rearranged test p e =
-      ap (each test) (rearranged-swaps order known p e) ∙ swaps-keep (each test) (each-swap test) (swaps order) p (swaps-here order known p e)
+  each_rearranged : (test : ℕ → Bool) (p : List ℕ) → length p ≡ 3 → each test (rearranged order p) ≡ each test p
+  each_rearranged test p e =
+      ap (each test) (rearranged_swaps order known p e) ∙ swaps_keep (each test) (each_swap test) (swaps order) p (swaps_here order known p e)
 
-  box-rearranged : (s : Shape) → box (reference (rearranged-shape order s)) ≡ box (reference s)
-  box-rearranged s =
-      ap box (reference-rearranged s ∙ rearranged-swaps order known (reference s) refl)
-      ∙ box-swaps (swaps order) (reference s) (swaps-here order known (reference s) refl)
+  box_rearranged : (s : Shape) → box (reference (rearranged_shape order s)) ≡ box (reference s)
+  box_rearranged s =
+      ap box (reference_rearranged s ∙ rearranged_swaps order known (reference s) refl)
+      ∙ box_swaps (swaps order) (reference s) (swaps_here order known (reference s) refl)
 
-  shape-kept : (s : Shape) → shape-allowed (rearranged-shape order s) ≡ shape-allowed s
-  unfolding shape-allowed rearranged-shape
-  shape-kept s =
+  shape_kept : (s : Shape) → shape_allowed (rearranged_shape order s) ≡ shape_allowed s
+  unfolding shape_allowed rearranged_shape
+  shape_kept s =
       ap (both (within 1 512 s.capacity))
-      (ap (each (within 1 1048576)) (reference-rearranged s) ∙ each-rearranged (within 1 1048576) (reference s) refl)
+      (ap (each (within 1 1048576)) (reference_rearranged s) ∙ each_rearranged (within 1 1048576) (reference s) refl)
 
-  coordinates-kept : (t : Trial) → coordinates-allowed (rearranged-trial order t) ≡ coordinates-allowed t
-  unfolding coordinates-allowed
-  coordinates-kept t = ap (each (within 0 1048576)) (point-rearranged order known t) ∙ each-rearranged (within 0 1048576) (point t) refl
+  coordinates_kept : (t : Trial) → coordinates_allowed (rearranged_trial order t) ≡ coordinates_allowed t
+  unfolding coordinates_allowed
+  coordinates_kept t = ap (each (within 0 1048576)) (point_rearranged order known t) ∙ each_rearranged (within 0 1048576) (point t) refl
 
-  bounds-kept : (s : Shape) (r : Row) → RowBounds s r → RowBounds (rearranged-shape order s) (rearranged-row order r)
-  unfolding rearranged-row rearranged-trial
-  bounds-kept s r b =
+  bounds_kept : (s : Shape) (r : Row) → RowBounds s r → RowBounds (rearranged_shape order s) (rearranged_row order r)
+  unfolding rearranged_row rearranged_trial
+  bounds_kept s r b =
       record {
-        number-low = b.number-low;
-        number-high = b.number-high;
-        coordinates = coordinates-kept r.trial ∙ b.coordinates;
-        kept_high = rw (box-rearranged s) b.kept_high;
+        number_low = b.number_low;
+        number_high = b.number_high;
+        coordinates = coordinates_kept r.trial ∙ b.coordinates;
+        kept_high = rw (box_rearranged s) b.kept_high;
       }
 
-  pub rearranged-sound : (a : Archive) → Sound a → Sound (rearranged-archive order a)
-  unfolding rearranged-archive rearranged-shape
-  rearranged-sound a s =
-      let apart : distinct (map (rearranged-trial order) (held-trials a)) ≡ true = distinct-rearranged order (held-trials a) ∙ s.apart in
+  pub rearranged_sound : (a : Archive) → Sound a → Sound (rearranged_archive order a)
+  unfolding rearranged_archive rearranged_shape
+  rearranged_sound a s =
+      let apart : distinct (map (rearranged_trial order) (held_trials a)) ≡ true = distinct_rearranged order (held_trials a) ∙ s.apart in
       record {
-        shaped = shape-kept a.shape ∙ s.shaped;
-        within-box = rw (box-rearranged a.shape) s.within-box;
-        front-within = rw (rearranged-count order a) s.front-within;
-        held-within = rw (rearranged-count order a) s.held-within;
-        rows_fit = each_rows _ (rearranged-archive order a).rows (λ r m. fits r (row_from order a r m));
-        in_order = rw (trials-rearranged order a) (ascending-ordered _ (in-order-ascending _ apart));
-        apart = rw (trials-rearranged order a) (in-order-distinct _ ∙ apart);
+        shaped = shape_kept a.shape ∙ s.shaped;
+        within_box = rw (box_rearranged a.shape) s.within_box;
+        front_within = rw (rearranged_count order a) s.front_within;
+        held_within = rw (rearranged_count order a) s.held_within;
+        rows_fit = each_rows _ (rearranged_archive order a).rows (λ r m. fits r (row_from order a r m));
+        in_order = rw (trials_rearranged order a) (ascending_ordered _ (in_order_ascending _ apart));
+        apart = rw (trials_rearranged order a) (in_order_distinct _ ∙ apart);
       }
     where
-      fits : (r : Row) → (q : Row) × Memᴰ q a.rows × (rearranged-row order q ≡ r) → RowBounds (rearranged-shape order a.shape) r
-      fits r w = rw (← w.2) (bounds-kept a.shape w.0 (rows-each a.shape a.rows s.rows_fit w.0 w.1))
+      fits : (r : Row) → (q : Row) × Memᴰ q a.rows × (rearranged_row order q ≡ r) → RowBounds (rearranged_shape order a.shape) r
+      fits r w = rw (← w.2) (bounds_kept a.shape w.0 (rows_each a.shape a.rows s.rows_fit w.0 w.1))

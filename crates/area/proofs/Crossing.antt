@@ -11,58 +11,58 @@ use lib.ListN.{length, take, get_or, length-take}
 use lib.Seq.{get_or-take, length-take-le}
 use borrow.Author.Tests.{le-leb, lt-leb, ne_eqb}
 use Rattle.slices.specs.Choices.{both}
-use Rattle.slices.proofs.Choices.{both-comm}
+use Rattle.slices.proofs.Choices.{both_comm}
 use Rattle.hypervolume.specs.Cells.{holds, dominates, sum, cells, count}
-use Rattle.hypervolume.proofs.Sums.{sum-le, sum-const, sum-none, sum-steady}
-use Rattle.hypervolume.proofs.Tests.{holds-le-one}
-use Rattle.line.specs.Line.{x-of, y_of, spot, tally, over, low}
-use Rattle.line.proofs.Rising.{rising-pair}
-use Rattle.line.proofs.Tally.{tally-none, column-tally}
-use Rattle.strips.specs.Strips.{gain-over}
-use Rattle.strips.proofs.SettleLaws.{sum-interval}
+use Rattle.hypervolume.proofs.Sums.{sum_le, sum_const, sum_none, sum_steady}
+use Rattle.hypervolume.proofs.Tests.{holds_le_one}
+use Rattle.line.specs.Line.{x_of, y_of, spot, tally, over, low}
+use Rattle.line.proofs.Rising.{rising_pair}
+use Rattle.line.proofs.Tally.{tally_none, column_tally}
+use Rattle.strips.specs.Strips.{gain_over}
+use Rattle.strips.proofs.SettleLaws.{sum_interval}
 use Rattle.area.specs.Area.{Falling, Topped, Crossing, Crossed}
 
 -- ---- what the entries leave free
 
 -- Rows below all entries.
-low-none : (line : List ℕ) (j : ℕ) → ((a : ℕ) → a < length line → j < y_of (get_or line a 0)) → low line j ≡ 0
+low_none : (line : List ℕ) (j : ℕ) → ((a : ℕ) → a < length line → j < y_of (get_or line a 0)) → low line j ≡ 0
 unfolding low
-low-none line j h = tally-none (λ w. leb (y_of w) j) line (λ a l. lt-leb (y_of (get_or line a 0)) j (h a l))
+low_none line j h = tally_none (λ w. leb (y_of w) j) line (λ a l. lt-leb (y_of (get_or line a 0)) j (h a l))
 
 -- Some entry passes a test: is at most j, or dominates the cell.
-tally-at : (test : ℕ → Bool) (line : List ℕ) (a : ℕ) → a < length line → test (get_or line a 0) ≡ true → 1 ≤ tally test line
+tally_at : (test : ℕ → Bool) (line : List ℕ) (a : ℕ) → a < length line → test (get_or line a 0) ≡ true → 1 ≤ tally test line
 unfolding tally holds
-tally-at test [] a l e = absurd (let no' : ⊥ = omega arith in no')
-tally-at test (w ∷ line) zero l e = rw e (omega arith)
-tally-at test (w ∷ line) (suc a) l e = omega (arith, tally-at test line a (let n : a < length line = omega arith in n) e)
+tally_at test [] a l e = absurd (let no' : ⊥ = omega arith in no')
+tally_at test (w ∷ line) zero l e = rw e (omega arith)
+tally_at test (w ∷ line) (suc a) l e = omega (arith, tally_at test line a (let n : a < length line = omega arith in n) e)
 
-pub low-at : (line : List ℕ) (j a : ℕ) → a < length line → y_of (get_or line a 0) ≤ j → 1 ≤ low line j
+pub low_at : (line : List ℕ) (j a : ℕ) → a < length line → y_of (get_or line a 0) ≤ j → 1 ≤ low line j
 unfolding low
-low-at line j a l m = tally-at (λ w. leb (y_of w) j) line a l (le-leb (y_of (get_or line a 0)) j m)
+low_at line j a l m = tally_at (λ w. leb (y_of w) j) line a l (le-leb (y_of (get_or line a 0)) j m)
 
-over-at : (line : List ℕ) (i j a : ℕ) → a < length line → x-of (get_or line a 0) ≤ i → y_of (get_or line a 0) ≤ j → 1 ≤ over line (i ∷ j ∷ [])
+over_at : (line : List ℕ) (i j a : ℕ) → a < length line → x_of (get_or line a 0) ≤ i → y_of (get_or line a 0) ≤ j → 1 ≤ over line (i ∷ j ∷ [])
 unfolding over dominates both
-over-at line i j a l m n =
-    tally-at (λ w. dominates (spot w) (i ∷ j ∷ [])) line a l (rw (le-leb (x-of (get_or line a 0)) i m, le-leb (y_of (get_or line a 0)) j n))
+over_at line i j a l m n =
+    tally_at (λ w. dominates (spot w) (i ∷ j ∷ [])) line a l (rw (le-leb (x_of (get_or line a 0)) i m, le-leb (y_of (get_or line a 0)) j n))
 
 -- The front of stairs.
-pub front-falls : (line : List ℕ) (k : ℕ) → Falling line → Falling (take k line)
-front-falls line k f a b m n =
+pub front_falls : (line : List ℕ) (k : ℕ) → Falling line → Falling (take k line)
+front_falls line k f a b m n =
     let inside : b < k = omega (arith, length-take k line) in
     rw (get_or-take k line b 0 inside, get_or-take k line a 0 (let i : a < k = omega arith in i)) (f a b m (omega (arith, length-take k line)))
 
-pub topped-none : (ry : ℕ) (line : List ℕ) → length line ≡ 0 → Topped ry line ry
+pub topped_none : (ry : ℕ) (line : List ℕ) → length line ≡ 0 → Topped ry line ry
 unfolding low tally
-topped-none ry [] e = record { most = omega arith; free = λ j l. refl; full = λ j l m. absurd (let no' : ⊥ = omega arith in no') }
-topped-none ry (w ∷ line) e = absurd (let no' : ⊥ = omega arith in no')
+topped_none ry [] e = record { most = omega arith; free = λ j l. refl; full = λ j l m. absurd (let no' : ⊥ = omega arith in no') }
+topped_none ry (w ∷ line) e = absurd (let no' : ⊥ = omega arith in no')
 
 -- The last entry is the lowest.
-pub topped-last : (ry : ℕ) (line : List ℕ) (n top : ℕ) → Falling line → suc n ≡ length line → top ≡ min (y_of (get_or line n 0)) ry → Topped ry line top
-topped-last ry line n top f e t =
+pub topped_last : (ry : ℕ) (line : List ℕ) (n top : ℕ) → Falling line → suc n ≡ length line → top ≡ min (y_of (get_or line n 0)) ry → Topped ry line top
+topped_last ry line n top f e t =
     record {
       most = omega arith;
-      free = λ j l. low-none line j (λ a m. above j l a m (dec_le (suc a) n));
-      full = λ j l m. low-at line j n (omega arith) (omega arith);
+      free = λ j l. low_none line j (λ a m. above j l a m (dec_le (suc a) n));
+      full = λ j l m. low_at line j n (omega arith) (omega arith);
     }
   where
     above : (j : ℕ) → j < top → (a : ℕ) → a < length line → Dec (a < n) → j < y_of (get_or line a 0)
@@ -72,50 +72,50 @@ topped-last ry line n top f e t =
 -- ---- one column of cells
 
 -- How many cells of column i the point at x and y dominates and no entry does.
-unfoldable pub column-of : List ℕ → (x y ry i : ℕ) → ℕ
-column-of line x y ry i = sum ry (λ j. holds (both (dominates (x ∷ y ∷ []) (i ∷ j ∷ [])) (eqb (over line (i ∷ j ∷ [])) 0)))
+unfoldable pub column_of : List ℕ → (x y ry i : ℕ) → ℕ
+column_of line x y ry i = sum ry (λ j. holds (both (dominates (x ∷ y ∷ []) (i ∷ j ∷ [])) (eqb (over line (i ∷ j ∷ [])) 0)))
 
-column-before : (line : List ℕ) (x y ry i : ℕ) → i < x → column-of line x y ry i ≡ 0
-unfolding column-of dominates both holds
-column-before line x y ry i l = sum-none ry _ (λ j m. rw (lt-leb x i l))
+column_before : (line : List ℕ) (x y ry i : ℕ) → i < x → column_of line x y ry i ≡ 0
+unfolding column_of dominates both holds
+column_before line x y ry i l = sum_none ry _ (λ j m. rw (lt-leb x i l))
 
-column-le : (line : List ℕ) (x y ry i : ℕ) → column-of line x y ry i ≤ ry
-unfolding column-of
-column-le line x y ry i =
-    let rows : column-of line x y ry i ≤ sum ry (λ j. 1) =
-    sum-le ry _ (λ j. 1) (λ j l. holds-le-one (both (dominates (x ∷ y ∷ []) (i ∷ j ∷ [])) (eqb (over line (i ∷ j ∷ [])) 0))) in
-    omega (arith, sum-const ry 1)
+column_le : (line : List ℕ) (x y ry i : ℕ) → column_of line x y ry i ≤ ry
+unfolding column_of
+column_le line x y ry i =
+    let rows : column_of line x y ry i ≤ sum ry (λ j. 1) =
+    sum_le ry _ (λ j. 1) (λ j l. holds_le_one (both (dominates (x ∷ y ∷ []) (i ∷ j ∷ [])) (eqb (over line (i ∷ j ∷ [])) 0))) in
+    omega (arith, sum_const ry 1)
 
-all-columns : (line : List ℕ) (x y rx ry : ℕ) → sum rx (column-of line x y ry) ≡ gain-over (rx ∷ ry ∷ []) line (x ∷ y ∷ [])
-unfolding column-of gain-over count cells
-all-columns line x y rx ry = refl
+all_columns : (line : List ℕ) (x y rx ry : ℕ) → sum rx (column_of line x y ry) ≡ gain_over (rx ∷ ry ∷ []) line (x ∷ y ∷ [])
+unfolding column_of gain_over count cells
+all_columns line x y rx ry = refl
 
 module _ (line : List ℕ) (x y ry i : ℕ) (right : x ≤ i) where
   here : (j : ℕ) → dominates (x ∷ y ∷ []) (i ∷ j ∷ []) ≡ leb y j
   unfolding dominates both
-  here j = rw (le-leb x i right) (both-comm (leb y j) true)
+  here j = rw (le-leb x i right) (both_comm (leb y j) true)
 
   -- the first k entries reach the column, the others do not
-  module _ (k top : ℕ) (reach : (a : ℕ) → a < k → a < length line → x-of (get_or line a 0) ≤ i) (miss : (a : ℕ) → k ≤ a → a < length line → i < x-of (get_or line a 0)) (t : Topped ry (take k line) top) where
-    over-here : (j : ℕ) → over line (i ∷ j ∷ []) ≡ low (take k line) j
+  module _ (k top : ℕ) (reach : (a : ℕ) → a < k → a < length line → x_of (get_or line a 0) ≤ i) (miss : (a : ℕ) → k ≤ a → a < length line → i < x_of (get_or line a 0)) (t : Topped ry (take k line) top) where
+    over_here : (j : ℕ) → over line (i ∷ j ∷ []) ≡ low (take k line) j
     unfolding over low both
-    over-here j = column-tally (λ w. true) line k i j reach miss
+    over_here j = column_tally (λ w. true) line k i j reach miss
 
-    column-here : column-of line x y ry i ≡ top - y
-    unfolding column-of both holds
-    column-here =
-        sum-interval ry y top _ t.most
+    column_here : column_of line x y ry i ≡ top - y
+    unfolding column_of both holds
+    column_here =
+        sum_interval ry y top _ t.most
         (λ j l. rw (here j, lt-leb y j l))
-        (λ j l m. rw (here j, le-leb y j l, over-here j, t.free j m))
-        (λ j l m. rw (here j, over-here j, ne_eqb (low (take k line) j) 0 (λ e. omega (arith, t.full j l m)), both-comm (leb y j) false))
+        (λ j l m. rw (here j, le-leb y j l, over_here j, t.free j m))
+        (λ j l m. rw (here j, over_here j, ne_eqb (low (take k line) j) 0 (λ e. omega (arith, t.full j l m)), both_comm (leb y j) false))
 
   -- some entry lies lower than the point
-  column-covered : (k : ℕ) → k < length line → x-of (get_or line k 0) ≤ i → y_of (get_or line k 0) < y → column-of line x y ry i ≡ 0
-  unfolding column-of both holds
-  column-covered k l m n = sum-none ry _ (λ j o. go j (dec_le y j))
+  column_covered : (k : ℕ) → k < length line → x_of (get_or line k 0) ≤ i → y_of (get_or line k 0) < y → column_of line x y ry i ≡ 0
+  unfolding column_of both holds
+  column_covered k l m n = sum_none ry _ (λ j o. go j (dec_le y j))
     where
       go : (j : ℕ) → Dec (y ≤ j) → holds (both (dominates (x ∷ y ∷ []) (i ∷ j ∷ [])) (eqb (over line (i ∷ j ∷ [])) 0)) ≡ 0
-      go j (yes p) = rw (ne_eqb (over line (i ∷ j ∷ [])) 0 (λ e. omega (arith, over-at line i j k l m (let q : y_of (get_or line k 0) ≤ j = omega arith in q))), both-comm (dominates (x ∷ y ∷ []) (i ∷ j ∷ [])) false)
+      go j (yes p) = rw (ne_eqb (over line (i ∷ j ∷ [])) 0 (λ e. omega (arith, over_at line i j k l m (let q : y_of (get_or line k 0) ≤ j = omega arith in q))), both_comm (dominates (x ∷ y ∷ []) (i ∷ j ∷ [])) false)
       go j (no p) = rw (here j, lt-leb y j (omega arith))
 
 -- ---- the pass
@@ -127,15 +127,15 @@ pub record Walking (line : List ℕ) (at top x y rx ry column from gain k : ℕ)
   pub within : k ≤ length line
   pub start : min x rx ≤ from
   pub bound : from ≤ rx
-  pub reached : (a : ℕ) → a < k → min (x-of (get_or line a 0)) rx ≤ from
-  pub ahead : (a : ℕ) → k ≤ a → a < length line → from ≤ x-of (get_or line a 0)
+  pub reached : (a : ℕ) → a < k → min (x_of (get_or line a 0)) rx ≤ from
+  pub ahead : (a : ℕ) → k ≤ a → a < length line → from ≤ x_of (get_or line a 0)
   pub topped : Topped ry (take k line) column
   pub higher : y ≤ column
   pub covered : (a : ℕ) → at ≤ a → a < k → y ≤ y_of (get_or line a 0)
-  pub gained : gain ≡ sum from (column-of line x y ry)
+  pub gained : gain ≡ sum from (column_of line x y ry)
 
-pub walking-none : {line : List ℕ} {at top x y rx ry : ℕ} → Crossing line at top x y rx ry → {from : ℕ} → from ≡ min x rx → Walking line at top x y rx ry top from 0 at
-walking-none {line} {at} {top} {x} {y} {rx} {ry} c {from} e =
+pub walking_none : {line : List ℕ} {at top x y rx ry : ℕ} → Crossing line at top x y rx ry → {from : ℕ} → from ≡ min x rx → Walking line at top x y rx ry top from 0 at
+walking_none {line} {at} {top} {x} {y} {rx} {ry} c {from} e =
     record {
       asked = c;
       begun = omega arith;
@@ -147,35 +147,35 @@ walking-none {line} {at} {top} {x} {y} {rx} {ry} c {from} e =
       topped = c.topped;
       higher = omega (arith, c.above);
       covered = λ a l m. absurd (let no' : ⊥ = omega arith in no');
-      gained = sym (sum-none from (column-of line x y ry) (λ i m. column-before line x y ry i (omega arith)));
+      gained = sym (sum_none from (column_of line x y ry) (λ i m. column_before line x y ry i (omega arith)));
     }
 
 module _ {line : List ℕ} {at top x y rx ry column from gain k : ℕ} (h : Walking line at top x y rx ry column from gain k) where
   -- up to `to` the columns are alike, where no entry ahead begins before it
-  module _ (to : ℕ) (rises : from ≤ to) (last : to ≤ rx) (clear : (a : ℕ) → k ≤ a → a < length line → to ≤ x-of (get_or line a 0)) where
-    pub strip : gain + (to - from) * (column - y) ≡ sum to (column-of line x y ry)
+  module _ (to : ℕ) (rises : from ≤ to) (last : to ≤ rx) (clear : (a : ℕ) → k ≤ a → a < length line → to ≤ x_of (get_or line a 0)) where
+    pub strip : gain + (to - from) * (column - y) ≡ sum to (column_of line x y ry)
     strip =
         rw h.gained
         (sym
-        (sum-steady (column-of line x y ry) (column - y) from to rises
-        (λ i l m. column-here line x y ry i (omega (arith, h.start, h.bound)) k column
+        (sum_steady (column_of line x y ry) (column - y) from to rises
+        (λ i l m. column_here line x y ry i (omega (arith, h.start, h.bound)) k column
         (λ a n o. omega (arith, h.reached a n, h.bound))
         (λ a n o. omega (arith, clear a n o))
         h.topped)))
 
     -- a count of cells below 2^41
-    pub strip-fits : gain + (to - from) * (column - y) < 2 ^ 64
-    strip-fits =
-        let rows : sum to (column-of line x y ry) ≤ sum to (λ i. ry) = sum-le to (column-of line x y ry) (λ i. ry) (λ i l. column-le line x y ry i) in
-        let all : sum to (λ i. ry) ≡ to * ry = sum-const to ry in
-        let wide : to ≤ 1048576 = omega (arith, h.asked.rx-small) in
-        let most : to * ry ≤ 1048576 * 1048576 = mul-le-mul wide h.asked.ry-small in
+    pub strip_fits : gain + (to - from) * (column - y) < 2 ^ 64
+    strip_fits =
+        let rows : sum to (column_of line x y ry) ≤ sum to (λ i. ry) = sum_le to (column_of line x y ry) (λ i. ry) (λ i l. column_le line x y ry i) in
+        let all : sum to (λ i. ry) ≡ to * ry = sum_const to ry in
+        let wide : to ≤ 1048576 = omega (arith, h.asked.rx_small) in
+        let most : to * ry ≤ 1048576 * 1048576 = mul-le-mul wide h.asked.ry_small in
         omega (arith, strip)
 
-  pub walking-end : length line ≤ k → {all : ℕ} → all ≡ gain + (rx - from) * (column - y) → Crossed line at x y rx ry all k
-  walking-end l e =
+  pub walking_end : length line ≤ k → {all : ℕ} → all ≡ gain + (rx - from) * (column - y) → Crossed line at x y rx ry all k
+  walking_end l e =
       record {
-        gains = e ∙ strip rx h.bound (omega arith) (λ a m n. absurd (let no' : ⊥ = omega arith in no')) ∙ all-columns line x y rx ry;
+        gains = e ∙ strip rx h.bound (omega arith) (λ a m n. absurd (let no' : ⊥ = omega arith in no')) ∙ all_columns line x y rx ry;
         front = h.begun;
         within = h.within;
         covered = h.covered;
@@ -183,27 +183,27 @@ module _ {line : List ℕ} {at top x y rx ry column from gain k : ℕ} (h : Walk
       }
 
   -- the entry at k
-  module _ (l : k < length line) {next : ℕ} (e : next ≡ min (x-of (get_or line k 0)) rx) where
-    pub next-on : from ≤ next
-    next-on = omega (arith, h.ahead k (let n : k ≤ k = omega arith in n) l, h.bound)
+  module _ (l : k < length line) {next : ℕ} (e : next ≡ min (x_of (get_or line k 0)) rx) where
+    pub next_on : from ≤ next
+    next_on = omega (arith, h.ahead k (let n : k ≤ k = omega arith in n) l, h.bound)
 
-    pub next-most : next ≤ rx
-    next-most = omega arith
+    pub next_most : next ≤ rx
+    next_most = omega arith
 
-    pub next-clear : (a : ℕ) → k ≤ a → a < length line → next ≤ x-of (get_or line a 0)
-    next-clear a m n = omega (arith, rising-pair 0 line h.asked.stairs.rising k a m n)
+    pub next_clear : (a : ℕ) → k ≤ a → a < length line → next ≤ x_of (get_or line a 0)
+    next_clear a m n = omega (arith, rising_pair 0 line h.asked.stairs.rising k a m n)
 
-    pub walking-stop : {all : ℕ} → all ≡ gain + (next - from) * (column - y) → y_of (get_or line k 0) < y → Crossed line at x y rx ry all k
-    walking-stop {all} f g =
+    pub walking_stop : {all : ℕ} → all ≡ gain + (next - from) * (column - y) → y_of (get_or line k 0) < y → Crossed line at x y rx ry all k
+    walking_stop {all} f g =
         record {
           gains =
               f
-              ∙ strip next next-on next-most next-clear
-              ∙ sym (let rest : sum rx (column-of line x y ry) ≡ sum next (column-of line x y ry) + (rx - next) * 0 =
-              sum-steady (column-of line x y ry) 0 next rx next-most
-              (λ i m n. column-covered line x y ry i (omega (arith, next-on, h.start, h.bound)) k l (omega arith) g) in
-              rest ∙ rw (mul-zero (rx - next)) (add-zero (sum next (column-of line x y ry))))
-              ∙ all-columns line x y rx ry;
+              ∙ strip next next_on next_most next_clear
+              ∙ sym (let rest : sum rx (column_of line x y ry) ≡ sum next (column_of line x y ry) + (rx - next) * 0 =
+              sum_steady (column_of line x y ry) 0 next rx next_most
+              (λ i m n. column_covered line x y ry i (omega (arith, next_on, h.start, h.bound)) k l (omega arith) g) in
+              rest ∙ rw (mul-zero (rx - next)) (add-zero (sum next (column_of line x y ry))))
+              ∙ all_columns line x y rx ry;
           front = h.begun;
           within = h.within;
           covered = h.covered;
@@ -214,24 +214,24 @@ module _ {line : List ℕ} {at top x y rx ry column from gain k : ℕ} (h : Walk
         below a n (yes o) m = omega (arith, h.asked.stairs.falling k a o n)
         below a n (no o) m = let same : a ≡ k = omega arith in rw same g
 
-    pub walking-more : {more column' : ℕ} → more ≡ gain + (next - from) * (column - y) → column' ≡ min (y_of (get_or line k 0)) ry → y ≤ y_of (get_or line k 0) → Walking line at top x y rx ry column' next more (k + 1)
-    walking-more {more} {column'} f d g =
+    pub walking_more : {more column' : ℕ} → more ≡ gain + (next - from) * (column - y) → column' ≡ min (y_of (get_or line k 0)) ry → y ≤ y_of (get_or line k 0) → Walking line at top x y rx ry column' next more (k + 1)
+    walking_more {more} {column'} f d g =
         record {
           asked = h.asked;
           begun = omega (arith, h.begun);
           within = omega arith;
-          start = omega (arith, h.start, next-on);
-          bound = next-most;
+          start = omega (arith, h.start, next_on);
+          bound = next_most;
           reached = λ a m. reached' a (dec_le (suc a) k) m;
-          ahead = λ a m n. next-clear a (omega arith) n;
-          topped = topped-last ry (take (k + 1) line) k column' (front-falls line (k + 1) h.asked.stairs.falling) (rw (length-take-le (k + 1) line (omega arith)) (omega arith)) (rw (get_or-take (k + 1) line k 0 (omega arith)) d);
+          ahead = λ a m n. next_clear a (omega arith) n;
+          topped = topped_last ry (take (k + 1) line) k column' (front_falls line (k + 1) h.asked.stairs.falling) (rw (length-take-le (k + 1) line (omega arith)) (omega arith)) (rw (get_or-take (k + 1) line k 0 (omega arith)) d);
           higher = omega (arith, h.asked.above, h.asked.topped.most);
           covered = λ a m n. covered' a (dec_le (suc a) k) m n;
-          gained = f ∙ strip next next-on next-most next-clear;
+          gained = f ∙ strip next next_on next_most next_clear;
         }
       where
-        reached' : (a : ℕ) → Dec (a < k) → a < k + 1 → min (x-of (get_or line a 0)) rx ≤ next
-        reached' a (yes o) m = omega (arith, h.reached a o, next-on)
+        reached' : (a : ℕ) → Dec (a < k) → a < k + 1 → min (x_of (get_or line a 0)) rx ≤ next
+        reached' a (yes o) m = omega (arith, h.reached a o, next_on)
         reached' a (no o) m = let same : a ≡ k = omega arith in rw same (omega arith)
 
         covered' : (a : ℕ) → Dec (a < k) → at ≤ a → a < k + 1 → y ≤ y_of (get_or line a 0)

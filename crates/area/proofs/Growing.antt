@@ -11,17 +11,17 @@ use lib.ListN.{length, take, drop, get_or, take-append-drop, length-take, length
 use lib.Seq.{take-take, get_or-take, get_or-drop, length-take-le}
 use borrow.Author.Tests.{le-leb, leb-true, ne_eqb}
 use Rattle.slices.specs.Choices.{both}
-use Rattle.slices.proofs.Choices.{both-comm, both_true}
+use Rattle.slices.proofs.Choices.{both_comm, both_true}
 use Rattle.hypervolume.specs.Cells.{holds, dominates}
 use Rattle.hypervolume.specs.Counts.{cover, gain}
 use Rattle.hypervolume.proofs.Counting.{count_none}
-use Rattle.line.specs.Line.{entry_of, x-of, y_of, over, low, tally, Rising, Ranked}
-use Rattle.line.proofs.Rising.{rising-front, rising-back, rising-from, rising-join}
-use Rattle.line.proofs.Entries.{covers-further, take-drop}
-use Rattle.line.proofs.Tally.{tally-none, column-least, over-append, over-cons}
-use Rattle.strips.specs.Strips.{gain-over}
-use Rattle.sweep.proofs.Layers.{count-layer}
-use Rattle.area.proofs.Crossing.{low-at, front-falls}
+use Rattle.line.specs.Line.{entry_of, x_of, y_of, over, low, tally, Rising, Ranked}
+use Rattle.line.proofs.Rising.{rising_front, rising_back, rising_from, rising_join}
+use Rattle.line.proofs.Entries.{covers_further, take_drop}
+use Rattle.line.proofs.Tally.{tally_none, column_least, over_append, over_cons}
+use Rattle.strips.specs.Strips.{gain_over}
+use Rattle.sweep.proofs.Layers.{count_layer}
+use Rattle.area.proofs.Crossing.{low_at, front_falls}
 use Rattle.area.specs.Area.{spot, Falling, Stairs, Lined, Topped, Crossing, Crossed, Growing, Grew}
 
 -- No point passed.
@@ -29,9 +29,9 @@ pub none_kept : Stairs []
 unfolding Rising
 none_kept = record { rising = tt; falling = λ a b l m. absurd (let no' : ⊥ = omega arith in no') }
 
-pub none-lined : (ry : ℕ) → Lined ry [] []
+pub none_lined : (ry : ℕ) → Lined ry [] []
 unfolding over tally cover
-none-lined ry = record { covers = λ i j l. refl }
+none_lined ry = record { covers = λ i j l. refl }
 
 -- ---- stairs in parts
 
@@ -40,49 +40,49 @@ under_all v [] t h g k l = g k l
 under_all v (w ∷ s) t h g zero l = h 0 (omega arith)
 under_all v (w ∷ s) t h g (suc k) l = under_all v s t (λ a m. h (suc a) (omega arith)) g k (omega arith)
 
-falling-join : (s t : List ℕ) → Falling s → Falling t → ((a b : ℕ) → a < length s → b < length t → y_of (get_or t b 0) < y_of (get_or s a 0)) → Falling (s ++ t)
-falling-join [] t f g h a b l m = g a b l m
-falling-join (w ∷ s) t f g h zero zero l m = absurd (let no' : ⊥ = omega arith in no')
-falling-join (w ∷ s) t f g h zero (suc b) l m =
+falling_join : (s t : List ℕ) → Falling s → Falling t → ((a b : ℕ) → a < length s → b < length t → y_of (get_or t b 0) < y_of (get_or s a 0)) → Falling (s ++ t)
+falling_join [] t f g h a b l m = g a b l m
+falling_join (w ∷ s) t f g h zero zero l m = absurd (let no' : ⊥ = omega arith in no')
+falling_join (w ∷ s) t f g h zero (suc b) l m =
     under_all (y_of w) s t (λ a n. f 0 (suc a) (omega arith) (omega arith)) (λ c n. h 0 c (omega arith) n) b (omega arith)
-falling-join (w ∷ s) t f g h (suc a) zero l m = absurd (let no' : ⊥ = omega arith in no')
-falling-join (w ∷ s) t f g h (suc a) (suc b) l m =
-    falling-join s t (λ c d n o. f (suc c) (suc d) (omega arith) (omega arith)) g (λ c d n o. h (suc c) d (omega arith) o) a b (omega arith) (omega arith)
+falling_join (w ∷ s) t f g h (suc a) zero l m = absurd (let no' : ⊥ = omega arith in no')
+falling_join (w ∷ s) t f g h (suc a) (suc b) l m =
+    falling_join s t (λ c d n o. f (suc c) (suc d) (omega arith) (omega arith)) g (λ c d n o. h (suc c) d (omega arith) o) a b (omega arith) (omega arith)
 
-falling-cons : (w : ℕ) (t : List ℕ) → Falling t → ((b : ℕ) → b < length t → y_of (get_or t b 0) < y_of w) → Falling (w ∷ t)
-falling-cons w t g h zero zero l m = absurd (let no' : ⊥ = omega arith in no')
-falling-cons w t g h zero (suc b) l m = h b (omega arith)
-falling-cons w t g h (suc a) zero l m = absurd (let no' : ⊥ = omega arith in no')
-falling-cons w t g h (suc a) (suc b) l m = g a b (omega arith) (omega arith)
+falling_cons : (w : ℕ) (t : List ℕ) → Falling t → ((b : ℕ) → b < length t → y_of (get_or t b 0) < y_of w) → Falling (w ∷ t)
+falling_cons w t g h zero zero l m = absurd (let no' : ⊥ = omega arith in no')
+falling_cons w t g h zero (suc b) l m = h b (omega arith)
+falling_cons w t g h (suc a) zero l m = absurd (let no' : ⊥ = omega arith in no')
+falling_cons w t g h (suc a) (suc b) l m = g a b (omega arith) (omega arith)
 
-back-falls : (line : List ℕ) (k : ℕ) → Falling line → Falling (drop k line)
-back-falls line k f a b m n =
+back_falls : (line : List ℕ) (k : ℕ) → Falling line → Falling (drop k line)
+back_falls line k f a b m n =
     rw (get_or-drop k line b 0, get_or-drop k line a 0) (f (k + a) (k + b) (omega arith) (omega (arith, length-drop k line)))
 
 -- ---- the point in place of the entries that it covers
 
-module _ {line : List ℕ} {at top x y rx ry gained end : ℕ} (c : Crossing line at top x y rx ry) (d : Crossed line at x y rx ry gained end) (next : ℕ) (is_x : x-of next ≡ x) (is_y : y_of next ≡ y) where
+module _ {line : List ℕ} {at top x y rx ry gained end : ℕ} (c : Crossing line at top x y rx ry) (d : Crossed line at x y rx ry gained end) (next : ℕ) (is_x : x_of next ≡ x) (is_y : y_of next ≡ y) where
   -- the entries before the point lie higher
   front_low : (a : ℕ) → a < length (take at line) → y < y_of (get_or (take at line) a 0)
   front_low a l = go (dec_le (y_of (get_or (take at line) a 0)) y)
     where
       go : Dec (y_of (get_or (take at line) a 0) ≤ y) → y < y_of (get_or (take at line) a 0)
-      go (yes m) = absurd (let no' : ⊥ = omega (arith, low-at (take at line) y a l m, c.topped.free y c.above) in no')
+      go (yes m) = absurd (let no' : ⊥ = omega (arith, low_at (take at line) y a l m, c.topped.free y c.above) in no')
       go (no m) = omega arith
 
-  pub new-stairs : Stairs (take at line ++ (next ∷ drop end line))
+  pub new_stairs : Stairs (take at line ++ (next ∷ drop end line))
   unfolding Rising
-  new-stairs =
+  new_stairs =
       record {
-        rising = rising-join 0 x (take at line) (next ∷ drop end line) zero-le
-            (rising-front 0 (take at line) (drop at line) (rw (take-append-drop at line) c.stairs.rising))
+        rising = rising_join 0 x (take at line) (next ∷ drop end line) zero-le
+            (rising_front 0 (take at line) (drop at line) (rw (take-append-drop at line) c.stairs.rising))
             (λ k l. rw (get_or-take at line k 0 (omega (arith, length-take at line))) (c.ranked.before k (omega (arith, length-take at line)))) (
               omega (arith, is_x),
-              rw is_x (rising-from 0 x (drop end line) (rising-back 0 (take end line) (drop end line) (rw (take-append-drop end line) c.stairs.rising))
-                  (λ k l. rw (get_or-drop end line k 0) (let far : x < x-of (get_or line (end + k) 0) = c.ranked.after (end + k) (omega (arith, d.front)) (omega (arith, length-drop end line)) in omega arith))),
+              rw is_x (rising_from 0 x (drop end line) (rising_back 0 (take end line) (drop end line) (rw (take-append-drop end line) c.stairs.rising))
+                  (λ k l. rw (get_or-drop end line k 0) (let far : x < x_of (get_or line (end + k) 0) = c.ranked.after (end + k) (omega (arith, d.front)) (omega (arith, length-drop end line)) in omega arith))),
             );
-        falling = falling-join (take at line) (next ∷ drop end line) (front-falls line at c.stairs.falling)
-            (falling-cons next (drop end line) (back-falls line end c.stairs.falling) (λ b l. rw is_y (back_low b l)))
+        falling = falling_join (take at line) (next ∷ drop end line) (front_falls line at c.stairs.falling)
+            (falling_cons next (drop end line) (back_falls line end c.stairs.falling) (λ b l. rw is_y (back_low b l)))
             (λ a b l m. apart a b l m);
       }
     where
@@ -97,17 +97,17 @@ module _ {line : List ℕ} {at top x y rx ry gained end : ℕ} (c : Crossing lin
   middle : List ℕ
   middle = drop at (take end line)
 
-  middle-covered : (k : List ℕ) → dominates (x ∷ y ∷ []) k ≡ false → over middle k ≡ 0
+  middle_covered : (k : List ℕ) → dominates (x ∷ y ∷ []) k ≡ false → over middle k ≡ 0
   unfolding over middle
-  middle-covered k e = tally-none (λ w. dominates (x-of w ∷ y_of w ∷ []) k) (drop at (take end line)) (λ a l. missed a l (dominates (x-of (get_or (drop at (take end line)) a 0) ∷ y_of (get_or (drop at (take end line)) a 0) ∷ []) k) refl)
+  middle_covered k e = tally_none (λ w. dominates (x_of w ∷ y_of w ∷ []) k) (drop at (take end line)) (λ a l. missed a l (dominates (x_of (get_or (drop at (take end line)) a 0) ∷ y_of (get_or (drop at (take end line)) a 0) ∷ []) k) refl)
     where
-      missed : (a : ℕ) → a < length (drop at (take end line)) → (b : Bool) → dominates (x-of (get_or (drop at (take end line)) a 0) ∷ y_of (get_or (drop at (take end line)) a 0) ∷ []) k ≡ b → b ≡ false
+      missed : (a : ℕ) → a < length (drop at (take end line)) → (b : Bool) → dominates (x_of (get_or (drop at (take end line)) a 0) ∷ y_of (get_or (drop at (take end line)) a 0) ∷ []) k ≡ b → b ≡ false
       missed a l false f = refl
       missed a l true f =
           let inside : at + a < end = omega (arith, length-drop at (take end line), length-take end line) in
           let is : get_or (drop at (take end line)) a 0 ≡ get_or line (at + a) 0 = get_or-drop at (take end line) a 0 ∙ get_or-take end line (at + a) 0 inside in
-          sym (covers-further x y (x-of (get_or (drop at (take end line)) a 0)) (y_of (get_or (drop at (take end line)) a 0)) k
-          (rw is (let far : x < x-of (get_or line (at + a) 0) = c.ranked.after (at + a) (omega arith) (omega (arith, d.within)) in omega arith))
+          sym (covers_further x y (x_of (get_or (drop at (take end line)) a 0)) (y_of (get_or (drop at (take end line)) a 0)) k
+          (rw is (let far : x < x_of (get_or line (at + a) 0) = c.ranked.after (at + a) (omega arith) (omega (arith, d.within)) in omega arith))
           (rw is (d.covered (at + a) (omega arith) inside))
           f)
           ∙ e
@@ -116,19 +116,19 @@ module _ {line : List ℕ} {at top x y rx ry gained end : ℕ} (c : Crossing lin
   unfolding middle
   parts k =
       ap (λ l. over l k) (sym (take-append-drop end line))
-      ∙ over-append (take end line) (drop end line) k
-      ∙ ap (λ n. n + over (drop end line) k) (ap (λ l. over l k) (sym (take-drop at end line d.front)) ∙ over-append (take at line) (drop at (take end line)) k)
+      ∙ over_append (take end line) (drop end line) k
+      ∙ ap (λ n. n + over (drop end line) k) (ap (λ l. over l k) (sym (take_drop at end line d.front)) ∙ over_append (take at line) (drop at (take end line)) k)
       ∙ add_assoc (over (take at line) k) (over (drop at (take end line)) k) (over (drop end line) k)
 
-  pub new-over : (k : List ℕ) → leb 1 (over (take at line ++ (next ∷ drop end line)) k) ≡ leb 1 (holds (dominates (x ∷ y ∷ []) k) + over line k)
+  pub new_over : (k : List ℕ) → leb 1 (over (take at line ++ (next ∷ drop end line)) k) ≡ leb 1 (holds (dominates (x ∷ y ∷ []) k) + over line k)
   unfolding holds
-  new-over k =
-      rw (over-append (take at line) (next ∷ drop end line) k, over-cons next (drop end line) k, is_x, is_y, parts k)
+  new_over k =
+      rw (over_append (take at line) (next ∷ drop end line) k, over_cons next (drop end line) k, is_x, is_y, parts k)
       (go (dominates (x ∷ y ∷ []) k) refl)
     where
       go : (b : Bool) → dominates (x ∷ y ∷ []) k ≡ b → leb 1 (over (take at line) k + (holds b + over (drop end line) k)) ≡ leb 1 (holds b + (over (take at line) k + (over middle k + over (drop end line) k)))
       go true e = rw (le-leb 1 (over (take at line) k + (1 + over (drop end line) k)) (omega arith), le-leb 1 (1 + (over (take at line) k + (over middle k + over (drop end line) k))) (omega arith))
-      go false e = rw (middle-covered k e) (ap (leb 1) (let same : over (take at line) k + (0 + over (drop end line) k) ≡ 0 + (over (take at line) k + (0 + over (drop end line) k)) = omega arith in same))
+      go false e = rw (middle_covered k e) (ap (leb 1) (let same : over (take at line) k + (0 + over (drop end line) k) ≡ 0 + (over (take at line) k + (0 + over (drop end line) k)) = omega arith in same))
 
 -- ---- the points passed and the line
 
@@ -143,40 +143,40 @@ none_alike (suc n) (suc k) e = rw (ne_eqb (suc n) 0 (λ z. omega arith), ne_eqb 
 none_alike zero (suc k) e = absurd (true≢false (sym (e ∙ le-leb 1 (suc k) (omega arith))))
 none_alike (suc n) zero e = absurd (true≢false (sym (sym e ∙ le-leb 1 (suc n) (omega arith))))
 
-more-alike : (b : Bool) (n k : ℕ) → leb 1 n ≡ leb 1 k → leb 1 (holds b + n) ≡ leb 1 (holds b + k)
+more_alike : (b : Bool) (n k : ℕ) → leb 1 n ≡ leb 1 k → leb 1 (holds b + n) ≡ leb 1 (holds b + k)
 unfolding holds
-more-alike true n k e = rw (le-leb 1 (1 + n) (omega arith), le-leb 1 (1 + k) (omega arith))
-more-alike false n k e = ap (leb 1) (zero-add n) ∙ e ∙ sym (ap (leb 1) (zero-add k))
+more_alike true n k e = rw (le-leb 1 (1 + n) (omega arith), le-leb 1 (1 + k) (omega arith))
+more_alike false n k e = ap (leb 1) (zero-add n) ∙ e ∙ sym (ap (leb 1) (zero-add k))
 
-gain-lined : {ry : ℕ} {passed : List (List ℕ)} {line : List ℕ} → Lined ry passed line → (rx : ℕ) (p : List ℕ) → gain-over (rx ∷ ry ∷ []) line p ≡ gain (rx ∷ ry ∷ []) passed p
-unfolding gain-over gain
-gain-lined {ry} {passed} {line} l rx p =
-    count-layer rx ry _ _ (λ i j m. ap (both (dominates p (i ∷ j ∷ []))) (none_alike (over line (i ∷ j ∷ [])) (cover passed (i ∷ j ∷ [])) (l.covers i j m)))
+gain_lined : {ry : ℕ} {passed : List (List ℕ)} {line : List ℕ} → Lined ry passed line → (rx : ℕ) (p : List ℕ) → gain_over (rx ∷ ry ∷ []) line p ≡ gain (rx ∷ ry ∷ []) passed p
+unfolding gain_over gain
+gain_lined {ry} {passed} {line} l rx p =
+    count_layer rx ry _ _ (λ i j m. ap (both (dominates p (i ∷ j ∷ []))) (none_alike (over line (i ∷ j ∷ [])) (cover passed (i ∷ j ∷ [])) (l.covers i j m)))
 
 -- ---- one more point
 
 module _ {line : List ℕ} {m : ℕ} {p : List ℕ} {rx ry : ℕ} (h : Growing line m p rx ry) where
-  pub growing-rising : Rising 0 (take m line)
-  growing-rising = h.kept.rising
+  pub growing_rising : Rising 0 (take m line)
+  growing_rising = h.kept.rising
 
   long : length (take m line) ≡ m
   long = length-take-le m line (omega (arith, h.room))
 
-  pub growing-end : {end : ℕ} → end ≤ length (take m line) → end ≤ m
-  growing-end l = omega (arith, long)
+  pub growing_end : {end : ℕ} → end ≤ length (take m line) → end ≤ m
+  growing_end l = omega (arith, long)
 
   module _ {at : ℕ} (ranked : Ranked (take m line) (get_or p 0 0) at) where
-    growing-held : at ≤ m
-    growing-held = omega (arith, ranked.within, long)
+    growing_held : at ≤ m
+    growing_held = omega (arith, ranked.within, long)
 
     part : take at (take m line) ≡ take at line
-    part = take-take at m line growing-held
+    part = take-take at m line growing_held
 
-    pub growing-at : at ≤ length line
-    growing-at = omega (arith, growing-held, h.room)
+    pub growing_at : at ≤ length line
+    growing_at = omega (arith, growing_held, h.room)
 
-    pub growing-falls : Falling (take at line)
-    growing-falls = rw part at (front-falls (take m line) at h.kept.falling)
+    pub growing_falls : Falling (take at line)
+    growing_falls = rw part at (front_falls (take m line) at h.kept.falling)
 
     module _ {top : ℕ} (t : Topped ry (take at line) top) where
       -- A point that the entries before it cover.
@@ -187,17 +187,17 @@ module _ {line : List ℕ} {m : ℕ} {p : List ℕ} {rx ry : ℕ} (h : Growing l
             let x-in : get_or p 0 0 ≤ i = leb-true (get_or p 0 0) i (both_true (leb (get_or p 0 0) i) (both (leb (get_or p 1 0) j) true) e).0 in
             let y-in : get_or p 1 0 ≤ j = leb-true (get_or p 1 0) j (both_true (leb (get_or p 1 0) j) true (both_true (leb (get_or p 0 0) i) (both (leb (get_or p 1 0) j) true) e).1).0 in
             let lowest : 1 ≤ low (take at (take m line)) j = rw part (t.full j (omega arith) n) in
-            omega (arith, column-least (λ w. true) (take m line) at i j (λ a o q. omega (arith, ranked.before a o)), lowest)
+            omega (arith, column_least (λ w. true) (take m line) at i j (λ a o q. omega (arith, ranked.before a o)), lowest)
 
-        no-gain : gain (rx ∷ ry ∷ []) passed (spot p) ≡ 0
-        unfolding gain-over
-        no-gain =
-            sym (gain-lined l rx (spot p))
-            ∙ count-layer rx ry _ (λ c. false) (λ i j n. closed i j n (dominates (spot p) (i ∷ j ∷ [])) refl)
+        no_gain : gain (rx ∷ ry ∷ []) passed (spot p) ≡ 0
+        unfolding gain_over
+        no_gain =
+            sym (gain_lined l rx (spot p))
+            ∙ count_layer rx ry _ (λ c. false) (λ i j n. closed i j n (dominates (spot p) (i ∷ j ∷ [])) refl)
             ∙ count_none (rx ∷ ry ∷ []) (λ c. false) (λ c. refl)
           where
             closed : (i j : ℕ) → j < ry → (b : Bool) → dominates (spot p) (i ∷ j ∷ []) ≡ b → both (dominates (spot p) (i ∷ j ∷ [])) (eqb (over (take m line) (i ∷ j ∷ [])) 0) ≡ false
-            closed i j n true e = rw (ne_eqb (over (take m line) (i ∷ j ∷ [])) 0 (λ z. omega (arith, covered i j n e)), both-comm (dominates (spot p) (i ∷ j ∷ [])) false) (both_false (dominates (spot p) (i ∷ j ∷ [])))
+            closed i j n true e = rw (ne_eqb (over (take m line) (i ∷ j ∷ [])) 0 (λ z. omega (arith, covered i j n e)), both_comm (dominates (spot p) (i ∷ j ∷ [])) false) (both_false (dominates (spot p) (i ∷ j ∷ [])))
             closed i j n false e = rw e (both_false (eqb (over (take m line) (i ∷ j ∷ [])) 0))
 
         pub left_out : Grew m p rx ry passed line m 0
@@ -206,7 +206,7 @@ module _ {line : List ℕ} {m : ℕ} {p : List ℕ} {rx ry : ℕ} (h : Growing l
             record {
               few = omega arith;
               kept = h.kept;
-              gains = sym no-gain;
+              gains = sym no_gain;
               lined = record { covers = λ i j n. same i j n (dominates (spot p) (i ∷ j ∷ [])) refl };
             }
           where
@@ -216,15 +216,15 @@ module _ {line : List ℕ} {m : ℕ} {p : List ℕ} {rx ry : ℕ} (h : Growing l
 
       -- One that is not.
       module _ (high-top : get_or p 1 0 < top) where
-        pub growing-crossing : Crossing (take m line) at top (get_or p 0 0) (get_or p 1 0) rx ry
-        growing-crossing =
+        pub growing_crossing : Crossing (take m line) at top (get_or p 0 0) (get_or p 1 0) rx ry
+        growing_crossing =
             record {
               stairs = h.kept;
               ranked = ranked;
               topped = rw part t;
               above = high-top;
-              rx-small = h.rx-small;
-              ry-small = h.ry-small;
+              rx_small = h.rx_small;
+              ry_small = h.ry_small;
             }
 
         pub grew : {gained end held next : ℕ} {left : List ℕ} → Crossed (take m line) at (get_or p 0 0) (get_or p 1 0) rx ry gained end → next ≡ entry_of (get_or p 0 0) (get_or p 1 0) 0 → held ≤ m + 1
@@ -234,17 +234,17 @@ module _ {line : List ℕ} {m : ℕ} {p : List ℕ} {rx ry : ℕ} (h : Growing l
         grew {gained} {end} {held} {next} {left} d e few f {passed} l =
             record {
               few = few;
-              kept = rw (f, ← part) (new-stairs growing-crossing d next is_x is_y);
-              gains = d.gains ∙ gain-lined l rx (spot p);
+              kept = rw (f, ← part) (new_stairs growing_crossing d next is_x is_y);
+              gains = d.gains ∙ gain_lined l rx (spot p);
               lined = record {
                 covers = λ i j n.
                     rw (f, ← part)
-                    (new-over growing-crossing d next is_x is_y (i ∷ j ∷ [])
-                    ∙ more-alike (dominates (spot p) (i ∷ j ∷ [])) (over (take m line) (i ∷ j ∷ [])) (cover passed (i ∷ j ∷ [])) (l.covers i j n));
+                    (new_over growing_crossing d next is_x is_y (i ∷ j ∷ [])
+                    ∙ more_alike (dominates (spot p) (i ∷ j ∷ [])) (over (take m line) (i ∷ j ∷ [])) (cover passed (i ∷ j ∷ [])) (l.covers i j n));
               };
             }
           where
-            is_x : x-of next ≡ get_or p 0 0
+            is_x : x_of next ≡ get_or p 0 0
             is_x = omega (arith, e, h.small 1)
 
             is_y : y_of next ≡ get_or p 1 0

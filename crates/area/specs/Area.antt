@@ -3,7 +3,7 @@ use Rattle.std.specs.Prelude.{ℕ, ◌+◌, ◌≤◌, ◌<◌, ◌≡◌, List,
 use Rattle.hypervolume.specs.Counts.{cover, gain}
 use Rattle.hypervolume.specs.Sorted.{Small}
 use Rattle.line.specs.Line.{y_of, over, low, Rising, Ranked}
-use Rattle.strips.specs.Strips.{gain-over}
+use Rattle.strips.specs.Strips.{gain_over}
 
 -- A point, seen along z.
 abbrev pub spot : List ℕ → List ℕ
@@ -33,11 +33,11 @@ pub record Crossing (line : List ℕ) (at top x y rx ry : ℕ) : Type 0 where
   pub ranked : Ranked line x at
   pub topped : Topped ry (take at line) top
   pub above : y < top
-  pub rx-small : rx ≤ 1048576
-  pub ry-small : ry ≤ 1048576
+  pub rx_small : rx ≤ 1048576
+  pub ry_small : ry ≤ 1048576
 
 pub record Crossed (line : List ℕ) (at x y rx ry gained end : ℕ) : Type 0 where
-  pub gains : gained ≡ gain-over (rx ∷ ry ∷ []) line (x ∷ y ∷ [])
+  pub gains : gained ≡ gain_over (rx ∷ ry ∷ []) line (x ∷ y ∷ [])
   pub front : at ≤ end
   pub within : end ≤ length line
   pub covered : (k : ℕ) → at ≤ k → k < end → y ≤ y_of (get_or line k 0)
@@ -48,8 +48,8 @@ pub record Growing (line : List ℕ) (m : ℕ) (p : List ℕ) (rx ry : ℕ) : Ty
   pub room : m < length line
   pub kept : Stairs (take m line)
   pub small : Small p
-  pub rx-small : rx ≤ 1048576
-  pub ry-small : ry ≤ 1048576
+  pub rx_small : rx ≤ 1048576
+  pub ry_small : ry ≤ 1048576
 
 pub record Grew (m : ℕ) (p : List ℕ) (rx ry : ℕ) (passed : List (List ℕ)) (left : List ℕ) (held gained : ℕ) : Type 0 where
   pub few : held ≤ m + 1

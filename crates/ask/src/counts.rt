@@ -3,8 +3,8 @@
 ghost use Rattle.std.specs.Prelude.{◌≡◌, ◌≤◌, length};
 ghost use Rattle.hypervolume.specs.Sorted.{Small};
 ghost use Rattle.words.specs.Layout.{read, word};
-ghost use Rattle.words.specs.Format.{archive-rows};
-ghost use Rattle.calls.specs.Calls.{held-points};
+ghost use Rattle.words.specs.Format.{archive_rows};
+ghost use Rattle.calls.specs.Calls.{held_points};
 ghost use Rattle.ask.specs.RecordCounts.{CountedAll, Room, CountedJoints};
 
 use corners::{Updated, update};
@@ -15,7 +15,7 @@ use words::reference_of;
 
 // The total of all records, whose points these are, and in `out` the contribution of each.
 pub fn count_all(w: &[u64], points: &[[u32; 3]], out: &mut [u64]) -> u64
-    requires { (archive-rows w.now 0 ≡ 0) × (points.now ≡ held-points (read w.now)) × (512 ≤ length out.old) }
+    requires { (archive_rows w.now 0 ≡ 0) × (points.now ≡ held_points (read w.now)) × (512 ≤ length out.old) }
     ensures { CountedAll w.now out.old out.new result }
 {
     let mut line = [0u64; 512];
@@ -35,7 +35,7 @@ pub fn count_joints_in(
     line: &mut [u64],
     counts: &mut [u64],
 ) -> Updated
-    requires { (archive-rows w.now 0 ≡ 0) × (skip ≤ word w.now 0) × Small p.at × Room points.old corners.old places.old line.old counts.old }
+    requires { (archive_rows w.now 0 ≡ 0) × (skip ≤ word w.now 0) × Small p.at × Room points.old corners.old places.old line.old counts.old }
     ensures { CountedJoints w.now skip p.at places.new counts.new result }
 {
     let m = load_points(w, skip, points);
@@ -58,7 +58,7 @@ pub fn count_joints(
     places: &mut [u16],
     counts: &mut [u64],
 ) -> Updated
-    requires { (archive-rows w.now 0 ≡ 0) × (skip ≤ word w.now 0) × (512 ≤ length places.old) × (512 ≤ length counts.old) × Small p.at }
+    requires { (archive_rows w.now 0 ≡ 0) × (skip ≤ word w.now 0) × (512 ≤ length places.old) × (512 ≤ length counts.old) × Small p.at }
     ensures { CountedJoints w.now skip p.at places.new counts.new result }
 {
     let mut points = [[0u32, 0, 0]; 512];

@@ -2,11 +2,11 @@
 // rows 1 to 3 let pass.
 ghost use Rattle.std.specs.Prelude.{◌≡◌, ◌<◌};
 ghost use Rattle.words.specs.Layout.{word, read};
-ghost use Rattle.words.specs.Format.{archive-rows};
+ghost use Rattle.words.specs.Format.{archive_rows};
 ghost use Rattle.words.specs.Places.{as_row, row_at};
-ghost use Rattle.calls.specs.Calls.{held-points, audited, joint-of};
-ghost use Rattle.records.specs.Columns.{place-but};
-ghost use Rattle.calls.specs.Lent.{least, share, joint, gain-answer, audit, trial-of};
+ghost use Rattle.calls.specs.Calls.{held_points, audited, joint_of};
+ghost use Rattle.records.specs.Columns.{place_but};
+ghost use Rattle.calls.specs.Lent.{least, share, joint, gain_answer, audit, trial_of};
 
 use crate::counts::{count_all, count_joints};
 use calls::{Answer, LeastAnswer};
@@ -18,7 +18,7 @@ use words::{Row, box_of, coordinates_allowed, find, record_at, reference_of, ref
 
 // Row 18 where the tie rule is neither of the two, row 14 where no trial is held.
 fn least_in(w: &[u64], rule: u64) -> LeastAnswer
-    requires { archive-rows w.now 0 ≡ 0 }
+    requires { archive_rows w.now 0 ≡ 0 }
     ensures { result ≡ least w.now rule }
 {
     if !rule_allowed(rule) {
@@ -50,15 +50,15 @@ pub fn least(w: &[u64], rule: u64) -> LeastAnswer
 // The place of the record at k among the others of the one at i: one lower where it comes behind it.
 fn place_among(i: usize, k: usize) -> usize
     requires { i ≡ k → ⊥ }
-    ensures { place-but i result ≡ k }
+    ensures { place_but i result ≡ k }
 {
     if i < k { k - 1 } else { k }
 }
 
 // The joint contribution of the trials at two places.
 fn joint_at(w: &[u64], i: usize, k: usize) -> u64
-    requires { (archive-rows w.now 0 ≡ 0) × (i < word w.now 0) × (k < word w.now 0) × (i ≡ k → ⊥) }
-    ensures { result ≡ joint-of (read w.now) (row_at w.now i).trial.number (row_at w.now k).trial.number }
+    requires { (archive_rows w.now 0 ≡ 0) × (i < word w.now 0) × (k < word w.now 0) × (i ≡ k → ⊥) }
+    ensures { result ≡ joint_of (read w.now) (row_at w.now i).trial.number (row_at w.now k).trial.number }
 {
     let mut places = [0u16; 512];
     let mut counts = [0u64; 512];
@@ -69,7 +69,7 @@ fn joint_at(w: &[u64], i: usize, k: usize) -> u64
 
 // Rows 9 and 10.
 fn joint_in(w: &[u64], first: u64, second: u64) -> Answer
-    requires { archive-rows w.now 0 ≡ 0 }
+    requires { archive_rows w.now 0 ≡ 0 }
     ensures { result ≡ joint w.now first second }
 {
     let n = w[0] as usize;
@@ -100,8 +100,8 @@ pub fn joint(w: &[u64], first: u64, second: u64) -> Answer
 
 // Row 6 where the point is not allowed.
 fn gain_in(w: &[u64], row: Row) -> Answer
-    requires { archive-rows w.now 0 ≡ 0 }
-    ensures { result ≡ gain-answer w.now (as_row row).trial }
+    requires { archive_rows w.now 0 ≡ 0 }
+    ensures { result ≡ gain_answer w.now (as_row row).trial }
 {
     if !coordinates_allowed(row) {
         return Answer::refused(6);
@@ -116,7 +116,7 @@ fn gain_in(w: &[u64], row: Row) -> Answer
 
 // Gain (point): cells that it dominates and no trial does.
 pub fn gain(w: &[u64], x: u64, y: u64, z: u64) -> Answer
-    ensures { result ≡ gain-answer w.now (trial-of 0 x y z) }
+    ensures { result ≡ gain_answer w.now (trial_of 0 x y z) }
 {
     let refused = refusal(w);
     if refused != 0 {
@@ -135,7 +135,7 @@ pub fn gain(w: &[u64], x: u64, y: u64, z: u64) -> Answer
 }
 
 fn share_in(w: &[u64]) -> Answer
-    requires { archive-rows w.now 0 ≡ 0 }
+    requires { archive_rows w.now 0 ≡ 0 }
     ensures { result ≡ share w.now }
 {
     Answer::done(millionths(w[5], box_of(reference_of(w))))
@@ -154,7 +154,7 @@ pub fn share(w: &[u64]) -> Answer
 
 // Whether the total, the front and all contributions equal their counts; these are the points of all records.
 fn counts_agree(w: &[u64], points: &[[u32; 3]]) -> bool
-    requires { (archive-rows w.now 0 ≡ 0) × (points.now ≡ held-points (read w.now)) }
+    requires { (archive_rows w.now 0 ≡ 0) × (points.now ≡ held_points (read w.now)) }
     ensures { result ≡ audited (read w.now) }
 {
     let mut counts = [0u64; 512];
@@ -170,7 +170,7 @@ fn counts_agree(w: &[u64], points: &[[u32; 3]]) -> bool
 
 // The audit's answer, for words that rows 1 to 3 let pass.
 pub fn audited(w: &[u64]) -> bool
-    requires { archive-rows w.now 0 ≡ 0 }
+    requires { archive_rows w.now 0 ≡ 0 }
     ensures { result ≡ audited (read w.now) }
 {
     let mut points = [[0u32, 0, 0]; 512];

@@ -2,11 +2,11 @@
 // total and front are carried over; the one count is the audit's.
 ghost use Rattle.std.specs.Prelude.{◌≡◌, ◌++◌, ◌+◌, ◌*◌, ◌≤◌, ◌<◌, length, drop};
 ghost use Rattle.slices.specs.Put.{put};
-ghost use Rattle.words.specs.Layout.{word, record-words, records, extent, layout, read};
-ghost use Rattle.words.specs.Format.{archive-rows};
-ghost use Rattle.words.specs.Places.{as-shape, row_at};
-ghost use Rattle.axes.specs.Rearranging.{rearranged-row, rearranged-shape, rearranged-archive, rearrange-rows, rearrange};
-ghost use Rattle.axes.specs.Arranging.{rows-by, Named};
+ghost use Rattle.words.specs.Layout.{word, record_words, records, extent, layout, read};
+ghost use Rattle.words.specs.Format.{archive_rows};
+ghost use Rattle.words.specs.Places.{as_shape, row_at};
+ghost use Rattle.axes.specs.Rearranging.{rearranged_row, rearranged_shape, rearranged_archive, rearrange_rows, rearrange};
+ghost use Rattle.axes.specs.Arranging.{rows_by, Named};
 
 use crate::arranging::arrange;
 use crate::orders::rearranged;
@@ -17,8 +17,8 @@ use words::{Record, Shape, put_header, record_at, reference_of, refusal};
 
 // Writes the record at a place, rearranged, as record i of the second slice.
 fn put_row(w: &[u64], order: usize, place: usize, second: &mut [u64], i: usize)
-    requires { (archive-rows w.now 0 ≡ 0) × (order < 6) × (place < word w.now 0) × (i < word w.now 0) × (8 + 5 * word w.now 0 ≤ length second.old) }
-    ensures { second.new ≡ put second.old (8 + 5 * i) (record-words (rearranged-row order (row_at w.now place))) }
+    requires { (archive_rows w.now 0 ≡ 0) × (order < 6) × (place < word w.now 0) × (i < word w.now 0) × (8 + 5 * word w.now 0 ≤ length second.old) }
+    ensures { second.new ≡ put second.old (8 + 5 * i) (record_words (rearranged_row order (row_at w.now place))) }
 {
     let new = Record {
         number: w[8 + 5 * place],
@@ -30,8 +30,8 @@ fn put_row(w: &[u64], order: usize, place: usize, second: &mut [u64], i: usize)
 
 // Writes the records that the keys name, rearranged, one behind the other.
 fn put_records(w: &[u64], order: usize, keys: &[u32], second: &mut [u64])
-    requires { (archive-rows w.now 0 ≡ 0) × (order < 6) × Named w.now keys.now × (8 + 5 * word w.now 0 ≤ length second.old) }
-    ensures { second.new ≡ put second.old 8 (records (rows-by w.now order keys.now)) }
+    requires { (archive_rows w.now 0 ≡ 0) × (order < 6) × Named w.now keys.now × (8 + 5 * word w.now 0 ≤ length second.old) }
+    ensures { second.new ≡ put second.old 8 (records (rows_by w.now order keys.now)) }
 {
     let mut i = 0;
     while i < keys.len() {
@@ -42,8 +42,8 @@ fn put_records(w: &[u64], order: usize, keys: &[u32], second: &mut [u64])
 
 // The shape rearranged.
 fn shape_in(w: &[u64], order: usize) -> Shape
-    requires { (archive-rows w.now 0 ≡ 0) × (order < 6) }
-    ensures { as-shape result ≡ rearranged-shape order (read w.now).shape }
+    requires { (archive_rows w.now 0 ≡ 0) × (order < 6) }
+    ensures { as_shape result ≡ rearranged_shape order (read w.now).shape }
 {
     let reference = rearranged(reference_of(w), order).at;
     Shape {
@@ -56,8 +56,8 @@ fn shape_in(w: &[u64], order: usize) -> Shape
 
 // Writes the archive rearranged, by two slices with a key for each record.
 fn write_by(w: &[u64], order: usize, keys: &mut [u32], out: &mut [u32], second: &mut [u64])
-    requires { (archive-rows w.now 0 ≡ 0) × (order < 6) × (length keys.old ≡ word w.now 0) × (length out.old ≡ word w.now 0) × (extent (word w.now 1) ≤ length second.old) }
-    ensures { second.new ≡ layout (rearranged-archive order (read w.now)) ++ drop (extent (word w.now 1)) second.old }
+    requires { (archive_rows w.now 0 ≡ 0) × (order < 6) × (length keys.old ≡ word w.now 0) × (length out.old ≡ word w.now 0) × (extent (word w.now 1) ≤ length second.old) }
+    ensures { second.new ≡ layout (rearranged_archive order (read w.now)) ++ drop (extent (word w.now 1)) second.old }
 {
     let n = w[0] as usize;
     let capacity = w[1] as usize;
@@ -69,8 +69,8 @@ fn write_by(w: &[u64], order: usize, keys: &mut [u32], out: &mut [u32], second: 
 
 // Writes the archive rearranged at the front of the second slice.
 pub fn write(w: &[u64], order: usize, second: &mut [u64])
-    requires { (archive-rows w.now 0 ≡ 0) × (order < 6) × (extent (word w.now 1) ≤ length second.old) }
-    ensures { second.new ≡ layout (rearranged-archive order (read w.now)) ++ drop (extent (word w.now 1)) second.old }
+    requires { (archive_rows w.now 0 ≡ 0) × (order < 6) × (extent (word w.now 1) ≤ length second.old) }
+    ensures { second.new ≡ layout (rearranged_archive order (read w.now)) ++ drop (extent (word w.now 1)) second.old }
 {
     let n = w[0] as usize;
     let mut keys = [0u32; 512];
@@ -80,7 +80,7 @@ pub fn write(w: &[u64], order: usize, second: &mut [u64])
 
 // The rows of the call.
 fn rearrange_rows(w: &[u64], order: u64, room: usize) -> u64
-    ensures { result ≡ rearrange-rows w.now order room }
+    ensures { result ≡ rearrange_rows w.now order room }
 {
     let refused = refusal(w);
     if refused != 0 {

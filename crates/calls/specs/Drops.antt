@@ -22,7 +22,7 @@ pub data Drops (rule : ℕ) : Archive → List ℕ → Archive → Type 0 where
   drop : {a b : Archive} {notes : List ℕ} (r : Row) → LeastHeld rule a r → Drops rule (removed a r.trial.number) notes b → Drops rule a (r.trial.number ∷ r.kept ∷ notes) b
 
 -- The sum of the contributions noted: every second word.
-unfoldable pub noted-sum : List ℕ → ℕ
-noted-sum [] = 0
-noted-sum (number ∷ []) = 0
-noted-sum (number ∷ contribution ∷ notes) = contribution + noted-sum notes
+unfoldable pub noted_sum : List ℕ → ℕ
+noted_sum [] = 0
+noted_sum (number ∷ []) = 0
+noted_sum (number ∷ contribution ∷ notes) = contribution + noted_sum notes

@@ -3,7 +3,7 @@
 use Rattle.std.specs.Prelude.{ℕ, ◌-◌, ◌≤◌, ◌≡◌, true, List, length}
 use Rattle.words.specs.Layout.{word, read}
 use Rattle.words.specs.Format.{held}
-use Rattle.calls.specs.Calls.{held-trials, rule-allowed}
+use Rattle.calls.specs.Calls.{held_trials, rule_allowed}
 use Rattle.calls.specs.Lent.{remove, reduce, audit}
 
 -- Trial n dropped instead: that removal is done, and its total is at most that of the reduction.
@@ -13,10 +13,10 @@ pub record NoBetter (w : List ℕ) (rule : ℕ) (log : List ℕ) (n : ℕ) : Typ
 
 pub record LosesLeast (w : List ℕ) (rule : ℕ) (log : List ℕ) : Type 0 where
   pub reduced : (reduce w (word w 0 - 1) rule log).refusal ≡ 0
-  pub none-better : (n : ℕ) → held n (held-trials (read w)) ≡ true → NoBetter w rule log n
+  pub none_better : (n : ℕ) → held n (held_trials (read w)) ≡ true → NoBetter w rule log n
 
 -- Where a trial is held, and the log has two words.
 unfoldable pub OneDropLosesLeast : Type 0
 OneDropLosesLeast =
-    (w : List ℕ) (rule : ℕ) (log : List ℕ) → audit w ≡ record { refusal = 0; value = 1 } → rule-allowed rule ≡ true
+    (w : List ℕ) (rule : ℕ) (log : List ℕ) → audit w ≡ record { refusal = 0; value = 1 } → rule_allowed rule ≡ true
     → 1 ≤ word w 0 → 2 ≤ length log → LosesLeast w rule log

@@ -3,7 +3,7 @@
 use Rattle.std.specs.Prelude.{ℕ, zero, suc, ◌+◌, ◌*◌, ◌/◌, ◌≡◌, List, ◌∷◌, [], ltb, length, drop}
 use Rattle.std.proofs.Math.Option.{Option, none, some}
 use Rattle.slices.specs.Choices.{pick}
-use Rattle.text.specs.Lines.{Numbers, line, line-from, numbers_of}
+use Rattle.text.specs.Lines.{Numbers, line, line_from, numbers_of}
 use Rattle.words.specs.Archive.{Trial, Shape}
 use Rattle.calls.specs.Lent.{Outcome, start, insert}
 use Rattle.card.specs.declared.Loaded.{Loaded}
@@ -19,8 +19,8 @@ unfoldable pub trial_on : Numbers → Trial
 trial_on v = record { number = v.first; x = v.second; y = v.third; z = v.fourth }
 
 -- A line has four fields of eight bytes and byte 10. Bytes after the last line's end are a further line.
-unfoldable pub line-count : List ℕ → ℕ
-line-count card = (length card + 32) / 33
+unfoldable pub line_count : List ℕ → ℕ
+line_count card = (length card + 32) / 33
 
 -- The first n lines; none stands for a line that is not of the form.
 unfoldable pub lines_from : ℕ → List ℕ → List (Option Numbers)
@@ -28,18 +28,18 @@ lines_from zero bytes = []
 lines_from (suc n) bytes = line bytes ∷ lines_from n (drop 33 bytes)
 
 unfoldable pub lines : List ℕ → List (Option Numbers)
-lines card = lines_from (line-count card) card
+lines card = lines_from (line_count card) card
 
 -- "A reading in progress is the lent card together with the line next due", counted from 1: that line, or none behind
 -- the last one.
 unfoldable pub due : List ℕ → ℕ → Option (Option Numbers)
 due card zero = none
-due card (suc i) = pick (ltb i (line-count card)) (some (line-from (33 * i) card)) none
+due card (suc i) = pick (ltb i (line_count card)) (some (line_from (33 * i) card)) none
 
 -- What the reading of the line due answers.
-abbrev pub due-of : Due → Option (Option Numbers)
-due-of (Next l) = some (numbers_of l)
-due-of End = none
+abbrev pub due_of : Due → Option (Option Numbers)
+due_of (Next l) = some (numbers_of l)
+due_of End = none
 
 -- Row 15: "a line not of the form".
 unfoldable pub malformed : List ℕ → Outcome
@@ -51,12 +51,12 @@ by_form w none call = malformed w
 by_form w (some v) call = call v
 
 -- Line 1: "form (15), then rows 4 and 1 (slice length only)", which are those of start.
-unfoldable pub first-line : List ℕ → Option Numbers → Outcome
-first-line w l = by_form w l (λ v. start w (shape_on v))
+unfoldable pub first_line : List ℕ → Option Numbers → Outcome
+first_line w l = by_form w l (λ v. start w (shape_on v))
 
 -- A further line: form (15), then the rows of insert, of which only 5 to 8 can come (Theorems).
-unfoldable pub further-line : List ℕ → Option Numbers → Outcome
-further-line w l = by_form w l (λ v. insert w (trial_on v))
+unfoldable pub further_line : List ℕ → Option Numbers → Outcome
+further_line w l = by_form w l (λ v. insert w (trial_on v))
 
 -- What loading answers, and what the archive slice then holds.
 pub record Loading : Type 0 where
@@ -82,12 +82,12 @@ judged before (suc n) line rest = refused before (suc n) line
 unfoldable pub further : List ℕ → List ℕ → ℕ → List (Option Numbers) → Loading
 further before w count [] = accepted count w
 further before w count (l ∷ ls) =
-    judged before (further-line w l).refusal (count + 2) (further before (further-line w l).words (count + 1) ls)
+    judged before (further_line w l).refusal (count + 2) (further before (further_line w l).words (count + 1) ls)
 
 -- The whole card. "An empty card is line 1" of row 15.
 unfoldable pub from_first : List ℕ → List (Option Numbers) → Loading
 from_first w [] = refused w 15 1
-from_first w (l ∷ ls) = judged w (first-line w l).refusal 1 (further w (first-line w l).words 0 ls)
+from_first w (l ∷ ls) = judged w (first_line w l).refusal 1 (further w (first_line w l).words 0 ls)
 
 unfoldable pub load : List ℕ → List ℕ → Loading
 load w card = from_first w (lines card)

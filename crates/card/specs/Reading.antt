@@ -8,5 +8,5 @@ use Rattle.card.specs.Card.{trial_on}
 
 -- Row 15, or the line's trial entered.
 pub data EntersLine (w : List ℕ) : Option Numbers → ℕ → List ℕ → Type 0 where
-  row-15 : {r : ℕ} {left : List ℕ} → r ≡ 15 → left ≡ w → EntersLine w none r left
-  of-the-form : {v : Numbers} {r : ℕ} {left : List ℕ} → Enters w (trial_on v) r left → EntersLine w (some v) r left
+  row_15 : {r : ℕ} {left : List ℕ} → r ≡ 15 → left ≡ w → EntersLine w none r left
+  of_the_form : {v : Numbers} {r : ℕ} {left : List ℕ} → Enters w (trial_on v) r left → EntersLine w (some v) r left

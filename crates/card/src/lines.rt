@@ -1,6 +1,6 @@
 // The lines of a card, read in turn.
 ghost use Rattle.std.specs.Prelude.{◌≡◌};
-ghost use Rattle.card.specs.Card.{due, due-of};
+ghost use Rattle.card.specs.Card.{due, due_of};
 
 use text::Line;
 
@@ -21,7 +21,7 @@ pub struct Reader<'a> {
 
 // The work: the line of this number. Bytes after the last line's end are a further line.
 fn line_due(card: &[u8], line: usize) -> Due
-    ensures { due-of result ≡ due card.now line }
+    ensures { due_of result ≡ due card.now line }
 {
     if line == 0 {
         return Due::End;
@@ -41,14 +41,14 @@ pub fn new<'a>(card: &'a [u8], line: usize) -> Reader<'a>
 
 // The line next due.
 pub fn next<'a>(r: Reader<'a>) -> Due
-    ensures { due-of result ≡ due r.entry.card.now r.entry.line }
+    ensures { due_of result ≡ due r.entry.card.now r.entry.line }
 {
     line_due(r.card, r.line)
 }
 
 // The line next due in a reading of this card, for callers that hold the card and the line apart.
 pub fn read_line(card: &[u8], line: usize) -> Due
-    ensures { due-of result ≡ due card.now line }
+    ensures { due_of result ≡ due card.now line }
 {
     next(new(card, line))
 }

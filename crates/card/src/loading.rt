@@ -1,9 +1,9 @@
 // Loading a card: it is judged first, so that a refused card leaves the lent slice as it was.
 ghost use Rattle.std.specs.Prelude.{◌≡◌, length};
 ghost use Rattle.text.specs.Lines.{numbers_of};
-ghost use Rattle.words.specs.Format.{archive-rows};
+ghost use Rattle.words.specs.Format.{archive_rows};
 ghost use Rattle.ask.specs.RecordCounts.{Room};
-ghost use Rattle.card.specs.Card.{first-line, load, ReadInto};
+ghost use Rattle.card.specs.Card.{first_line, load, ReadInto};
 ghost use Rattle.card.specs.Check.{check};
 ghost use Rattle.card.specs.Reading.{EntersLine};
 
@@ -17,7 +17,7 @@ use words::Row;
 
 // Line 1: the start of the archive. Answers 15, 4, 1 or 0.
 fn first_line(w: &mut [u64], l: Line) -> u64
-    ensures { (result ≡ (first-line w.old (numbers_of l)).refusal) × (w.new ≡ (first-line w.old (numbers_of l)).words) }
+    ensures { (result ≡ (first_line w.old (numbers_of l)).refusal) × (w.new ≡ (first_line w.old (numbers_of l)).words) }
 {
     let Line::Values {
         first,
@@ -41,7 +41,7 @@ fn further_line(
     column: &mut [u64],
     counts: &mut [u64],
 ) -> u64
-    requires { (archive-rows w.old 0 ≡ 0) × Room points.old corners.old places.old column.old counts.old }
+    requires { (archive_rows w.old 0 ≡ 0) × Room points.old corners.old places.old column.old counts.old }
     ensures { EntersLine w.old (numbers_of l) result w.new }
 {
     let Line::Values {

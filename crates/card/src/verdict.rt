@@ -3,11 +3,11 @@ ghost use Rattle.std.specs.Prelude.{◌≡◌, false, ◌≤◌, length, drop};
 ghost use Rattle.std.proofs.Math.Option.{some};
 ghost use Rattle.text.specs.Lines.{numbers_of};
 ghost use Rattle.words.specs.Format.{guard};
-ghost use Rattle.words.specs.Places.{as-shape};
+ghost use Rattle.words.specs.Places.{as_shape};
 ghost use Rattle.calls.specs.Calls.{empty};
 ghost use Rattle.card.specs.Card.{lines, due};
-ghost use Rattle.card.specs.Verdict.{answer-of, judge-further, judge};
-ghost use Rattle.card.specs.Further.{number-due, taken, further-rows};
+ghost use Rattle.card.specs.Verdict.{answer_of, judge_further, judge};
+ghost use Rattle.card.specs.Further.{number_due, taken, further_rows};
 
 use crate::Loaded;
 use crate::lines::{Due, read_line};
@@ -34,7 +34,7 @@ pub fn refused(refusal: u64, line: u64) -> Loaded
 
 // The trial number on a further line. 0 stands for none.
 fn number_on(l: Line) -> u64
-    ensures { result ≡ number-due (some (numbers_of l)) }
+    ensures { result ≡ number_due (some (numbers_of l)) }
 {
     let Line::Values {
         first,
@@ -49,7 +49,7 @@ fn number_on(l: Line) -> u64
 }
 
 fn number_at(card: &[u8], line: usize) -> u64
-    ensures { result ≡ number-due (due card.now line) }
+    ensures { result ≡ number_due (due card.now line) }
 {
     let Due::Next(l) = read_line(card, line) else {
         return 0;
@@ -85,8 +85,8 @@ fn held(card: &[u8], count: usize, number: u64, met: bool) -> bool
 
 // A further line, behind `count` others: rows 15 and 5 to 8.
 fn further_row(card: &[u8], capacity: u64, count: usize, l: Line, met: bool) -> u64
-    requires { (count ≤ length card.now) × (met ≡ false → taken card.now count (number-due (some (numbers_of l))) ≡ false) }
-    ensures { result ≡ further-rows capacity count (taken card.now count (number-due (some (numbers_of l)))) (numbers_of l) }
+    requires { (count ≤ length card.now) × (met ≡ false → taken card.now count (number_due (some (numbers_of l))) ≡ false) }
+    ensures { result ≡ further_rows capacity count (taken card.now count (number_due (some (numbers_of l)))) (numbers_of l) }
 {
     let Line::Values {
         first,
@@ -120,7 +120,7 @@ fn further_row(card: &[u8], capacity: u64, count: usize, l: Line, met: bool) -> 
 
 // The further lines. The table has the numbers of those passed.
 fn judge_further(card: &[u8], s: Shape) -> Loaded
-    ensures { result ≡ answer-of (judge-further (empty (as-shape s)) (lines (drop 33 card.now))) }
+    ensures { result ≡ answer_of (judge_further (empty (as_shape s)) (lines (drop 33 card.now))) }
 {
     let mut table = [0u64; 1024];
     let mut count: usize = 0;
@@ -141,7 +141,7 @@ fn judge_further(card: &[u8], s: Shape) -> Loaded
 
 // Judges the card for a slice of `room` words: the count of trials, or a refusal and its line.
 pub fn judge(card: &[u8], room: usize) -> Loaded
-    ensures { result ≡ answer-of (judge room (lines card.now)) }
+    ensures { result ≡ answer_of (judge room (lines card.now)) }
 {
     let Due::Next(l) = read_line(card, 1) else {
         return refused(15, 1);

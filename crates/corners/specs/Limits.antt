@@ -13,8 +13,8 @@ offer t u a = pick (dominates (set t a 0) u) (get_or t a 0) 1048576
 
 -- On the first k axes the two least offers, with those of t.
 pub record Offered (least second t u least' second' : List ℕ) (k : ℕ) : Type 0 where
-  pub on-least : (a : ℕ) → a < k → get_or least' a 0 ≡ min (get_or least a 0) (offer t u a)
-  pub on-second : (a : ℕ) → a < k → get_or second' a 0 ≡ min (get_or second a 0) (max (get_or least a 0) (offer t u a))
+  pub on_least : (a : ℕ) → a < k → get_or least' a 0 ≡ min (get_or least a 0) (offer t u a)
+  pub on_second : (a : ℕ) → a < k → get_or second' a 0 ≡ min (get_or second a 0) (max (get_or least a 0) (offer t u a))
 
 -- On each axis the limit is at least u. Where it limits anything, at least two of the points are at most u moved
 -- along that axis up to the limit.
@@ -31,8 +31,8 @@ passing test (t ∷ trials) = pick (test t) (t ∷ passing test trials) (passing
 pub record Collecting (points : List (List ℕ)) (u limit : List ℕ) (corners : List (List ℕ)) (places : List ℕ) : Type 0 where
   pub sorted : Sorted points
   pub above : dominates u limit ≡ true
-  pub corners-room : length points ≤ length corners
-  pub places-room : length points ≤ length places
+  pub corners_room : length points ≤ length corners
+  pub places_room : length points ≤ length places
 
 -- Of the corners with the first i points, those within the limit are the first m of `corners`. Their points stand at the
 -- first m places, which ascend.

@@ -7,12 +7,12 @@ use Rattle.sweep.specs.Points.{Ready}
 pub record Updating (points : List (List ℕ)) (u reference : List ℕ) (corners : List (List ℕ)) (places line counts : List ℕ) : Type 0 where
   pub ready : Ready points reference line counts
   pub small : Small u
-  pub corners-room : length points ≤ length corners
-  pub places-room : length points ≤ length places
+  pub corners_room : length points ≤ length corners
+  pub places_room : length points ≤ length places
 
 -- Room to count an update of n points in.
 pub record Scratch (n : ℕ) (corners : List (List ℕ)) (places line counts : List ℕ) : Type 0 where
-  pub corners-room : n ≤ length corners
-  pub places-room : n ≤ length places
-  pub line-room : n ≤ length line
-  pub counts-room : n ≤ length counts
+  pub corners_room : n ≤ length corners
+  pub places_room : n ≤ length places
+  pub line_room : n ≤ length line
+  pub counts_room : n ≤ length counts

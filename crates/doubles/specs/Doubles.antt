@@ -21,17 +21,17 @@ unfoldable pub number_of : Float → ℕ
 number_of x = pick (both (nat_le (to_unsigned 64 x) 1048576) (eq (double (to_unsigned 64 x)) x)) (to_unsigned 64 x) 1048577
 
 -- "The sum starts at zero."
-abbrev pub zero-double : Float
-zero-double = fin false 0 (pos 0)
+abbrev pub zero_double : Float
+zero_double = fin false 0 (pos 0)
 
 -- "The slice's area is multiplied by its height and the product added, each step rounded once."
-unfoldable pub with-layer : Float → Layer → Float
-with-layer sum l = add binary64 sum (mul binary64 (double l.area) (double l.height))
+unfoldable pub with_layer : Float → Layer → Float
+with_layer sum l = add binary64 sum (mul binary64 (double l.area) (double l.height))
 
 -- The layers in turn.
-unfoldable pub sum-from : Float → List Layer → Float
-sum-from sum [] = sum
-sum-from sum (l ∷ ls) = sum-from (with-layer sum l) ls
+unfoldable pub sum_from : Float → List Layer → Float
+sum_from sum [] = sum
+sum_from sum (l ∷ ls) = sum_from (with_layer sum l) ls
 
 -- m and n are at most d apart.
 pub record Within (m n d : ℕ) : Type 0 where
@@ -48,7 +48,7 @@ pub record About (x : Float) (n d : ℕ) : Type 0 where
 -- it is no number up to 1,048,576.
 pub data IsNumber (x : Float) (n : ℕ) : Type 0 where
   plain : Whole x n → IsNumber x n
-  minus-zero : HasValue x true 0 1 → n ≡ 0 → IsNumber x n
+  minus_zero : HasValue x true 0 1 → n ≡ 0 → IsNumber x n
 
 pub record ReadsNumbers : Type 0 where
   pub limit : (x : Float) → number_of x ≤ 1048577

@@ -1,6 +1,6 @@
 // Doubles that are whole numbers: read, and layers of cells added up in them.
 ghost use Rattle.std.specs.Prelude.{◌≡◌, ◌^◌, ◌≤◌};
-ghost use Rattle.doubles.specs.Doubles.{number_of, with-layer};
+ghost use Rattle.doubles.specs.Doubles.{number_of, with_layer};
 
 // The whole number up to 1,048,576 that a double is, or 1,048,577 where it is none. Minus zero is 0.
 pub fn number(x: f64) -> u64
@@ -22,7 +22,7 @@ pub fn number(x: f64) -> u64
 // One layer more: area times height, added, each of the two steps rounded once.
 pub fn add_layer(sum: f64, area: u64, height: u64) -> f64
     requires { (area ≤ 2 ^ 53) × (height ≤ 2 ^ 53) }
-    ensures { result ≡ with-layer sum (record { area = area; height = height }) }
+    ensures { result ≡ with_layer sum (record { area = area; height = height }) }
 {
     sum + area as f64 * height as f64
 }

@@ -9,17 +9,17 @@ use Rattle.hypervolume.specs.Cells.{holds}
 use Rattle.words.specs.Archive.{Archive}
 use Rattle.words.specs.Layout.{read}
 use Rattle.words.specs.Format.{guard, within}
-use Rattle.words.proofs.Passed.{within-bounds}
+use Rattle.words.proofs.Passed.{within_bounds}
 use Rattle.calls.specs.Calls.{box_of, audited}
-use Rattle.fleet.specs.Fleet.{archives, fleet-rows, every}
-use Rattle.fleet.proofs.Fleet.{fleet-passes, fleet-refused}
+use Rattle.fleet.specs.Fleet.{archives, fleet_rows, every}
+use Rattle.fleet.proofs.Fleet.{fleet_passes, fleet_refused}
 use Rattle.figures.specs.declared.answer.FiguresAnswer.{FiguresAnswer}
-use Rattle.figures.specs.Figures.{reference-rows, totals, sum, ascending, ranked, least, greatest, median, of-one-reference, median-share, figures-rows, figures-answer, figures}
+use Rattle.figures.specs.Figures.{reference_rows, totals, sum, ascending, ranked, least, greatest, median, of_one_reference, median_share, figures_rows, figures_answer, figures}
 use Rattle.figures.specs.Runs.{Runs}
-use Rattle.figures.proofs.Boxes.{length-totals, common-first}
+use Rattle.figures.proofs.Boxes.{length_totals, common_first}
 
 -- The answer, field by field.
-pub answer-is : {w starts : List ℕ} → Runs w starts → {t s : List ℕ} {sums share audits : ℕ} → t ≡ totals (archives (length starts) w) → s ≡ ascending t → sums ≡ sum t
+pub answer_is : {w starts : List ℕ} → Runs w starts → {t s : List ℕ} {sums share audits : ℕ} → t ≡ totals (archives (length starts) w) → s ≡ ascending t → sums ≡ sum t
     → share ≡ nearest (get_or s ((length starts - 1) / 2) 0 * 1000000) (box_of (read w)) → audits ≡ holds (every audited (archives (length starts) w))
     → record {
       refusal = 0;
@@ -30,56 +30,56 @@ pub answer-is : {w starts : List ℕ} → Runs w starts → {t s : List ℕ} {su
       share = share;
       audits = audits;
     }
-    ≡ figures-answer 0 (archives (length starts) w)
-unfolding figures-answer least greatest median ranked median-share
-answer-is {w} {starts} h e f g i j =
-    rw (j, i, g, f, e, length-totals (length starts) w, common-first (length starts) w h.some)
+    ≡ figures_answer 0 (archives (length starts) w)
+unfolding figures_answer least greatest median ranked median_share
+answer_is {w} {starts} h e f g i j =
+    rw (j, i, g, f, e, length_totals (length starts) w, common_first (length starts) w h.some)
 
 -- The answers of a refusal, row by row.
 abbrev zeros : ℕ → FiguresAnswer
 zeros row = record { refusal = row; sum = 0; least = 0; greatest = 0; median = 0; share = 0; audits = 0 }
 
-refused-answer : (row : ℕ) (fleet : List Archive) → (row ≡ 0 → ⊥) → zeros row ≡ figures-answer row fleet
-unfolding figures-answer
-refused-answer zero fleet off = absurd (off refl)
-refused-answer (suc row) fleet off = refl
+refused_answer : (row : ℕ) (fleet : List Archive) → (row ≡ 0 → ⊥) → zeros row ≡ figures_answer row fleet
+unfolding figures_answer
+refused_answer zero fleet off = absurd (off refl)
+refused_answer (suc row) fleet off = refl
 
 module _ (w : List ℕ) (n : ℕ) where
-  pub references-differ : {r : FiguresAnswer} {alike : Bool} → alike ≡ of-one-reference (archives n w) → alike ≡ false → r ≡ zeros 23 → r ≡ figures-answer (reference-rows (archives n w)) (archives n w)
-  unfolding reference-rows guard figures-answer
-  references-differ e f g = g ∙ rw (← e, f)
+  pub references_differ : {r : FiguresAnswer} {alike : Bool} → alike ≡ of_one_reference (archives n w) → alike ≡ false → r ≡ zeros 23 → r ≡ figures_answer (reference_rows (archives n w)) (archives n w)
+  unfolding reference_rows guard figures_answer
+  references_differ e f g = g ∙ rw (← e, f)
 
-  pub references-alike : {r : FiguresAnswer} {alike : Bool} → alike ≡ of-one-reference (archives n w) → alike ≡ true → r ≡ figures-answer 0 (archives n w)
-      → r ≡ figures-answer (reference-rows (archives n w)) (archives n w)
-  unfolding reference-rows guard
-  references-alike e f g = g ∙ rw (← e, f)
+  pub references_alike : {r : FiguresAnswer} {alike : Bool} → alike ≡ of_one_reference (archives n w) → alike ≡ true → r ≡ figures_answer 0 (archives n w)
+      → r ≡ figures_answer (reference_rows (archives n w)) (archives n w)
+  unfolding reference_rows guard
+  references_alike e f g = g ∙ rw (← e, f)
 
-  pub one-refused : {r : FiguresAnswer} {row : ℕ} → row ≡ fleet-rows n w 0 → (row ≡ 0 → ⊥) → r ≡ zeros row → r ≡ figures-answer (fleet-rows n w (reference-rows (archives n w))) (archives n w)
-  one-refused {r} {row} e off g =
-      g ∙ refused-answer row (archives n w) off ∙ ap (λ k. figures-answer k (archives n w)) (e ∙ sym (fleet-refused n w (reference-rows (archives n w)) (λ z. off (e ∙ z))))
+  pub one_refused : {r : FiguresAnswer} {row : ℕ} → row ≡ fleet_rows n w 0 → (row ≡ 0 → ⊥) → r ≡ zeros row → r ≡ figures_answer (fleet_rows n w (reference_rows (archives n w))) (archives n w)
+  one_refused {r} {row} e off g =
+      g ∙ refused_answer row (archives n w) off ∙ ap (λ k. figures_answer k (archives n w)) (e ∙ sym (fleet_refused n w (reference_rows (archives n w)) (λ z. off (e ∙ z))))
 
-  pub all-passed : {r : FiguresAnswer} {m : ℕ} → m ≡ n → fleet-rows n w 0 ≡ 0 → r ≡ figures-answer (reference-rows (archives m w)) (archives m w) → r ≡ figures-answer (fleet-rows n w (reference-rows (archives n w))) (archives n w)
-  all-passed long e g =
-      g ∙ ap (λ k. figures-answer (reference-rows (archives k w)) (archives k w)) long
-      ∙ ap (λ k. figures-answer k (archives n w)) (sym (fleet-passes n w (reference-rows (archives n w)) e))
+  pub all_passed : {r : FiguresAnswer} {m : ℕ} → m ≡ n → fleet_rows n w 0 ≡ 0 → r ≡ figures_answer (reference_rows (archives m w)) (archives m w) → r ≡ figures_answer (fleet_rows n w (reference_rows (archives n w))) (archives n w)
+  all_passed long e g =
+      g ∙ ap (λ k. figures_answer (reference_rows (archives k w)) (archives k w)) long
+      ∙ ap (λ k. figures_answer k (archives n w)) (sym (fleet_passes n w (reference_rows (archives n w)) e))
 
-  pub number-refused : {r : FiguresAnswer} {some : Bool} → some ≡ within 1 15 n → some ≡ false → r ≡ zeros 23 → r ≡ figures w n
-  unfolding figures figures-rows guard figures-answer
-  number-refused e f g = g ∙ rw (← e, f)
+  pub number_refused : {r : FiguresAnswer} {some : Bool} → some ≡ within 1 15 n → some ≡ false → r ≡ zeros 23 → r ≡ figures w n
+  unfolding figures figures_rows guard figures_answer
+  number_refused e f g = g ∙ rw (← e, f)
 
-  pub number-allowed : {r : FiguresAnswer} {some : Bool} {m : ℕ} → m ≡ n → some ≡ within 1 15 n → some ≡ true
-      → r ≡ figures-answer (fleet-rows m w (reference-rows (archives m w))) (archives m w) → r ≡ figures w n
-  unfolding figures figures-rows guard
-  number-allowed long e f g = g ∙ ap (λ k. figures-answer (fleet-rows k w (reference-rows (archives k w))) (archives k w)) long ∙ rw (← e, f)
+  pub number_allowed : {r : FiguresAnswer} {some : Bool} {m : ℕ} → m ≡ n → some ≡ within 1 15 n → some ≡ true
+      → r ≡ figures_answer (fleet_rows m w (reference_rows (archives m w))) (archives m w) → r ≡ figures w n
+  unfolding figures figures_rows guard
+  number_allowed long e f g = g ∙ ap (λ k. figures_answer (fleet_rows k w (reference_rows (archives k w))) (archives k w)) long ∙ rw (← e, f)
 
 pub numbered : (number : ℕ) {some : Bool} → some ≡ within 1 15 number → some ≡ true → (1 ≤ number) × (number ≤ 15)
-numbered number e f = within-bounds 1 15 number (sym e ∙ f)
+numbered number e f = within_bounds 1 15 number (sym e ∙ f)
 
 -- 1 for yes, 0 for no.
-pub holds-one : (t : Bool) → t ≡ true → ◌≡◌ {A = ℕ} 1 (holds t)
+pub holds_one : (t : Bool) → t ≡ true → ◌≡◌ {A = ℕ} 1 (holds t)
 unfolding holds
-holds-one t e = rw e
+holds_one t e = rw e
 
-pub holds-none : (t : Bool) → t ≡ false → ◌≡◌ {A = ℕ} 0 (holds t)
+pub holds_none : (t : Bool) → t ≡ false → ◌≡◌ {A = ℕ} 0 (holds t)
 unfolding holds
-holds-none t e = rw e
+holds_none t e = rw e

@@ -8,22 +8,22 @@ use lib.Dec.{eqb}
 use lib.ListN.{length, get_or, set, length-set}
 use lib.Seq.{get_or-set_same, get_or-set_other, get_or-drop, ext_get_or}
 use Rattle.slices.specs.Choices.{both}
-use Rattle.slices.proofs.Put.{rest-is}
-use Rattle.order.proofs.ByDigit.{length-by-digit}
+use Rattle.slices.proofs.Put.{rest_is}
+use Rattle.order.proofs.ByDigit.{length_by_digit}
 use Rattle.hypervolume.proofs.Tests.{by_order}
-use Rattle.words.specs.Layout.{word, read, read-shape, behind}
-use Rattle.words.specs.Format.{archive-rows}
+use Rattle.words.specs.Layout.{word, read, read_shape, behind}
+use Rattle.words.specs.Format.{archive_rows}
 use Rattle.calls.specs.Calls.{box_of}
-use Rattle.calls.proofs.Known.{known, box-filled}
+use Rattle.calls.proofs.Known.{known, box_filled}
 use Rattle.fleet.specs.Fleet.{archives, past, every}
 use Rattle.fleet.specs.Starts.{Starts}
-use Rattle.fleet.proofs.Fleet.{passed-at}
-use Rattle.fleet.proofs.Loops.{start-past, Testing}
-use Rattle.figures.specs.Figures.{totals, ascending, ranked, same-reference, of-one-reference}
+use Rattle.fleet.proofs.Fleet.{passed_at}
+use Rattle.fleet.proofs.Loops.{start_past, Testing}
+use Rattle.figures.specs.Figures.{totals, ascending, ranked, same_reference, of_one_reference}
 use Rattle.figures.specs.Runs.{Runs, Totals}
-use Rattle.figures.proofs.Ranks.{ranked-is}
-use Rattle.figures.proofs.Theorem.{fleet-totals}
-use Rattle.figures.proofs.Boxes.{totals-at, length-totals, one-run, of-run-within}
+use Rattle.figures.proofs.Ranks.{ranked_is}
+use Rattle.figures.proofs.Theorem.{fleet_totals}
+use Rattle.figures.proofs.Boxes.{totals_at, length_totals, one_run, of_run_within}
 
 -- The first i totals are read.
 pub record Loading (w starts : List ℕ) (i : ℕ) (out : List ℕ) : Type 0 where
@@ -31,13 +31,13 @@ pub record Loading (w starts : List ℕ) (i : ℕ) (out : List ℕ) : Type 0 whe
   pub long : length out ≡ length starts
   pub there : (k : ℕ) → k < i → get_or out k 0 ≡ word (past k w) 5
 
-pub loading-none : (w starts out : List ℕ) → length out ≡ length starts → Loading w starts 0 out
-loading-none w starts out e =
+pub loading_none : (w starts out : List ℕ) → length out ≡ length starts → Loading w starts 0 out
+loading_none w starts out e =
     record { part = omega arith; long = e; there = λ k b. absurd (let no : ⊥ = omega arith in no) }
 
 module _ {w starts : List ℕ} {i : ℕ} {out : List ℕ} (h : Loading w starts i out) where
-  pub loading-more : Starts w starts → i < length starts → Loading w starts (i + 1) (set out i (word w (get_or starts i 0 + 5)))
-  loading-more s l =
+  pub loading_more : Starts w starts → i < length starts → Loading w starts (i + 1) (set out i (word w (get_or starts i 0 + 5)))
+  loading_more s l =
       record {
         part = omega arith;
         long = length-set out i _ ∙ h.long;
@@ -49,47 +49,47 @@ module _ {w starts : List ℕ} {i : ℕ} {out : List ℕ} (h : Loading w starts 
     where
       total : word w (get_or starts i 0 + 5) ≡ word (past i w) 5
       total =
-          sym (get_or-drop (get_or starts i 0) w 5 0) ∙ ap (λ b. word b 5) (sym (rest-is (get_or starts i 0) w) ∙ start-past s i l)
+          sym (get_or-drop (get_or starts i 0) w 5 0) ∙ ap (λ b. word b 5) (sym (rest_is (get_or starts i 0) w) ∙ start_past s i l)
 
-  pub loading-end : length starts ≤ i → out ≡ totals (archives (length starts) w)
-  loading-end l =
-      ext_get_or 0 out (totals (archives (length starts) w)) (h.long ∙ sym (length-totals (length starts) w))
-      (λ k b. h.there k (omega (arith, h.long)) ∙ sym (totals-at (length starts) k w (omega (arith, h.long))))
+  pub loading_end : length starts ≤ i → out ≡ totals (archives (length starts) w)
+  loading_end l =
+      ext_get_or 0 out (totals (archives (length starts) w)) (h.long ∙ sym (length_totals (length starts) w))
+      (λ k b. h.there k (omega (arith, h.long)) ∙ sym (totals_at (length starts) k w (omega (arith, h.long))))
 
 -- A reference is words 2, 3 and 4.
-pub same-by-words : (a b : List ℕ) {yz all : Bool} → yz ≡ both (eqb (word a 3) (word b 3)) (eqb (word a 4) (word b 4))
-    → all ≡ both (eqb (word a 2) (word b 2)) yz → all ≡ same-reference (read a) (read b)
-unfolding same-reference read read-shape
-same-by-words a b e f = f ∙ ap (both (eqb (word a 2) (word b 2))) e
+pub same_by_words : (a b : List ℕ) {yz all : Bool} → yz ≡ both (eqb (word a 3) (word b 3)) (eqb (word a 4) (word b 4))
+    → all ≡ both (eqb (word a 2) (word b 2)) yz → all ≡ same_reference (read a) (read b)
+unfolding same_reference read read_shape
+same_by_words a b e f = f ∙ ap (both (eqb (word a 2) (word b 2))) e
 
 -- References are compared from the second archive on.
-pub comparing-none : (n : ℕ) (w : List ℕ) → Testing (same-reference (read w)) (of-one-reference (archives n w)) w n 1
-unfolding of-one-reference archives past every
-comparing-none zero w = record { left = refl }
-comparing-none (suc n) w =
-    record { left = ap (λ k. every (same-reference (read w)) (archives k (behind w))) (let e : n ≡ suc n - 1 = omega arith in e) }
+pub comparing_none : (n : ℕ) (w : List ℕ) → Testing (same_reference (read w)) (of_one_reference (archives n w)) w n 1
+unfolding of_one_reference archives past every
+comparing_none zero w = record { left = refl }
+comparing_none (suc n) w =
+    record { left = ap (λ k. every (same_reference (read w)) (archives k (behind w))) (let e : n ≡ suc n - 1 = omega arith in e) }
 
 -- What the figures and the share ask of the runs.
 module _ {w starts : List ℕ} (h : Runs w starts) where
-  pub first_passes : archive-rows w 0 ≡ 0
+  pub first_passes : archive_rows w 0 ≡ 0
   unfolding past
-  first_passes = passed-at (length starts) 0 w h.begun.passes h.some
+  first_passes = passed_at (length starts) 0 w h.begun.passes h.some
 
-  pub runs-totals : {l : List ℕ} → l ≡ totals (archives (length starts) w) → Totals l
-  runs-totals e = rw e (fleet-totals (length starts) w h.few h.begun.passes)
+  pub runs_totals : {l : List ℕ} → l ≡ totals (archives (length starts) w) → Totals l
+  runs_totals e = rw e (fleet_totals (length starts) w h.few h.begun.passes)
 
-  ranked-within : (k : ℕ) → k < length starts → ranked (totals (archives (length starts) w)) k ≤ box_of (read w)
-  ranked-within k l =
-      let fits : k < length (totals (archives (length starts) w)) = omega (arith, length-totals (length starts) w) in
-      of-run-within (one-run (length starts) w h.begun.passes h.alike (ranked-is (totals (archives (length starts) w)) k fits).one_of)
+  ranked_within : (k : ℕ) → k < length starts → ranked (totals (archives (length starts) w)) k ≤ box_of (read w)
+  ranked_within k l =
+      let fits : k < length (totals (archives (length starts) w)) = omega (arith, length_totals (length starts) w) in
+      of_run_within (one_run (length starts) w h.begun.passes h.alike (ranked_is (totals (archives (length starts) w)) k fits).one_of)
 
-  pub sorted-long : {t s : List ℕ} → t ≡ totals (archives (length starts) w) → s ≡ ascending t → length s ≡ length starts
+  pub sorted_long : {t s : List ℕ} → t ≡ totals (archives (length starts) w) → s ≡ ascending t → length s ≡ length starts
   unfolding ascending
-  sorted-long {t} e f = ap length f ∙ length-by-digit (λ k. k) t ∙ ap length e ∙ length-totals (length starts) w
+  sorted_long {t} e f = ap length f ∙ length_by_digit (λ k. k) t ∙ ap length e ∙ length_totals (length starts) w
 
   -- The share's box is the first archive's, and the median lies within it.
-  pub share-asks : {whole : ℕ} {s : List ℕ} (k : ℕ) → whole ≡ box_of (read w) → s ≡ ascending (totals (archives (length starts) w)) → k < length starts
+  pub share_asks : {whole : ℕ} {s : List ℕ} (k : ℕ) → whole ≡ box_of (read w) → s ≡ ascending (totals (archives (length starts) w)) → k < length starts
       → (1 ≤ whole) × (get_or s k 0 ≤ whole) × (whole ≤ 1152921504606846976)
   unfolding read ranked
-  share-asks k e f l =
-      rw (e, f) (box-filled w first_passes, ranked-within k l, (known w first_passes).box-small)
+  share_asks k e f l =
+      rw (e, f) (box_filled w first_passes, ranked_within k l, (known w first_passes).box_small)

@@ -2,9 +2,9 @@
 ghost use Rattle.std.specs.Prelude.{◌≡◌, ◌≤◌, length};
 ghost use Rattle.hypervolume.specs.Cells.{holds};
 ghost use Rattle.words.specs.Layout.{read};
-ghost use Rattle.fleet.specs.Fleet.{archives, fleet-rows};
+ghost use Rattle.fleet.specs.Fleet.{archives, fleet_rows};
 ghost use Rattle.fleet.specs.Starts.{Starts};
-ghost use Rattle.figures.specs.Figures.{totals, ascending, same-reference, of-one-reference, reference-rows, figures-answer, figures};
+ghost use Rattle.figures.specs.Figures.{totals, ascending, same_reference, of_one_reference, reference_rows, figures_answer, figures};
 ghost use Rattle.figures.specs.Runs.{Runs};
 
 use crate::answer::FiguresAnswer;
@@ -29,7 +29,7 @@ fn load_totals(w: &[u64], starts: &[u64], out: &mut [u64])
 // Whether two archives have one reference.
 fn same_reference(a: &[u64], b: &[u64]) -> bool
     requires { (8 ≤ length a.now) × (8 ≤ length b.now) }
-    ensures { result ≡ same-reference (read a.now) (read b.now) }
+    ensures { result ≡ same_reference (read a.now) (read b.now) }
 {
     both(a[2] == b[2], both(a[3] == b[3], a[4] == b[4]))
 }
@@ -37,7 +37,7 @@ fn same_reference(a: &[u64], b: &[u64]) -> bool
 // Whether every reference is that of the first.
 fn of_one_reference(w: &[u64], starts: &[u64]) -> bool
     requires { Starts w.now starts.now }
-    ensures { result ≡ of-one-reference (archives (length starts.now) w.now) }
+    ensures { result ≡ of_one_reference (archives (length starts.now) w.now) }
 {
     let mut i = 1;
     while i < starts.len() {
@@ -59,7 +59,7 @@ fn one_if(yes: bool) -> u64
 // The figures of runs that no row turns down: from their totals, as they come and in ascending order.
 fn answer_of(w: &[u64], starts: &[u64], numbers: &[u64], sorted: &[u64]) -> FiguresAnswer
     requires { Runs w.now starts.now × (numbers.now ≡ totals (archives (length starts.now) w.now)) × (sorted.now ≡ ascending numbers.now) }
-    ensures { result ≡ figures-answer 0 (archives (length starts.now) w.now) }
+    ensures { result ≡ figures_answer 0 (archives (length starts.now) w.now) }
 {
     let n = starts.len();
     let least = sorted[0];
@@ -79,7 +79,7 @@ fn answer_of(w: &[u64], starts: &[u64], numbers: &[u64], sorted: &[u64]) -> Figu
 // The same, by two slices with a word for each.
 fn answer_by(w: &[u64], starts: &[u64], numbers: &mut [u64], sorted: &mut [u64]) -> FiguresAnswer
     requires { Runs w.now starts.now × (length numbers.old ≡ length starts.now) × (length sorted.old ≡ length starts.now) }
-    ensures { result ≡ figures-answer 0 (archives (length starts.now) w.now) }
+    ensures { result ≡ figures_answer 0 (archives (length starts.now) w.now) }
 {
     load_totals(w, starts, numbers);
     sort(numbers, sorted);
@@ -89,7 +89,7 @@ fn answer_by(w: &[u64], starts: &[u64], numbers: &mut [u64], sorted: &mut [u64])
 // Row 23 where references differ, of archives that pass and begin at these places.
 fn figures_from(w: &[u64], starts: &[u64]) -> FiguresAnswer
     requires { Starts w.now starts.now × (1 ≤ length starts.now) × (length starts.now ≤ 15) }
-    ensures { result ≡ figures-answer (reference-rows (archives (length starts.now) w.now)) (archives (length starts.now) w.now) }
+    ensures { result ≡ figures_answer (reference_rows (archives (length starts.now) w.now)) (archives (length starts.now) w.now) }
 {
     if !of_one_reference(w, starts) {
         return FiguresAnswer::refused(23);
@@ -103,7 +103,7 @@ fn figures_from(w: &[u64], starts: &[u64]) -> FiguresAnswer
 // Rows 1 to 3 of as many archives as `starts` has places, and the rows behind them.
 fn figures_in(w: &[u64], starts: &mut [u64]) -> FiguresAnswer
     requires { (1 ≤ length starts.old) × (length starts.old ≤ 15) }
-    ensures { result ≡ figures-answer (fleet-rows (length starts.old) w.now (reference-rows (archives (length starts.old) w.now))) (archives (length starts.old) w.now) }
+    ensures { result ≡ figures_answer (fleet_rows (length starts.old) w.now (reference_rows (archives (length starts.old) w.now))) (archives (length starts.old) w.now) }
 {
     let row = check(w, starts);
     if row != 0 {

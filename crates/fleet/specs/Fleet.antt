@@ -4,7 +4,7 @@ use Rattle.std.specs.Prelude.{ℕ, zero, suc, ◌+◌, ◌≡◌, Bool, true, Li
 use Rattle.slices.specs.Choices.{both}
 use Rattle.words.specs.Archive.{Archive}
 use Rattle.words.specs.Layout.{layout, read, extent, word, behind}
-use Rattle.words.specs.Format.{archive-rows}
+use Rattle.words.specs.Format.{archive_rows}
 
 -- The first n archives that the words hold.
 unfoldable pub archives : ℕ → List ℕ → List Archive
@@ -17,9 +17,9 @@ past zero w = w
 past (suc n) w = past n (behind w)
 
 -- "Rows 1 to 3 of each", in turn; those of an archive are judged on all words from where it begins. Then the rows of the call.
-unfoldable pub fleet-rows : ℕ → List ℕ → ℕ → ℕ
-fleet-rows zero w rest = rest
-fleet-rows (suc n) w rest = archive-rows w (fleet-rows n (behind w) rest)
+unfoldable pub fleet_rows : ℕ → List ℕ → ℕ → ℕ
+fleet_rows zero w rest = rest
+fleet_rows (suc n) w rest = archive_rows w (fleet_rows n (behind w) rest)
 
 -- How many words the first n archives take.
 unfoldable pub extents : ℕ → List ℕ → ℕ
@@ -38,25 +38,25 @@ every test (a ∷ fleet) = both (test a) (every test fleet)
 
 -- Archives whose own words pass rows 1 to 3.
 unfoldable pub sound : List Archive → Bool
-sound fleet = every (λ a. eqb (archive-rows (layout a) 0) 0) fleet
+sound fleet = every (λ a. eqb (archive_rows (layout a) 0) 0) fleet
 
 -- Archives laid one behind the other, with any words behind them, are read again: so many archives, those words, and no row.
 pub record ReadAgain (fleet : List Archive) (b : List ℕ) : Type 0 where
   pub same : archives (length fleet) (layouts fleet ++ b) ≡ fleet
   pub rest : past (length fleet) (layouts fleet ++ b) ≡ b
-  pub passes : (row : ℕ) → fleet-rows (length fleet) (layouts fleet ++ b) row ≡ row
+  pub passes : (row : ℕ) → fleet_rows (length fleet) (layouts fleet ++ b) row ≡ row
 
 -- n more behind the first m.
 pub record Joined (m n : ℕ) (w : List ℕ) : Type 0 where
   pub all : archives (m + n) w ≡ archives m w ++ archives n (past m w)
   pub rest : past (m + n) w ≡ past n (past m w)
-  pub rows : (row : ℕ) → fleet-rows (m + n) w row ≡ fleet-rows m w (fleet-rows n (past m w) row)
+  pub rows : (row : ℕ) → fleet_rows (m + n) w row ≡ fleet_rows m w (fleet_rows n (past m w) row)
 
 -- What holds of archives one behind the other.
 pub record FleetLaws : Type 0 where
   -- Words in which n archives pass are their layouts and the words behind, and each archive is sound.
-  pub laid : (n : ℕ) (w : List ℕ) → fleet-rows n w 0 ≡ 0 → w ≡ layouts (archives n w) ++ past n w
-  pub sound-each : (n : ℕ) (w : List ℕ) → fleet-rows n w 0 ≡ 0 → sound (archives n w) ≡ true
+  pub laid : (n : ℕ) (w : List ℕ) → fleet_rows n w 0 ≡ 0 → w ≡ layouts (archives n w) ++ past n w
+  pub sound_each : (n : ℕ) (w : List ℕ) → fleet_rows n w 0 ≡ 0 → sound (archives n w) ≡ true
   pub read_again : (fleet : List Archive) (b : List ℕ) → sound fleet ≡ true → ReadAgain fleet b
   pub joined : (m n : ℕ) (w : List ℕ) → Joined m n w
   -- The words behind begin where the words of the archives end.

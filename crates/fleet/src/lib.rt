@@ -1,7 +1,7 @@
 // Archives one behind the other in a slice: rows 1 to 3 of each, where each begins, and whether every audit says yes.
 ghost use Rattle.std.specs.Prelude.{◌≡◌, length};
 ghost use Rattle.calls.specs.Calls.{audited};
-ghost use Rattle.fleet.specs.Fleet.{archives, fleet-rows, every};
+ghost use Rattle.fleet.specs.Fleet.{archives, fleet_rows, every};
 ghost use Rattle.fleet.specs.Starts.{Starts};
 
 use ask::audited;
@@ -10,7 +10,7 @@ use words::refusal;
 // Rows 1 to 3 of as many archives as `starts` has places, in turn: the row that turns one down, or 0. Where it is 0, `starts` then
 // tells where each archive begins.
 pub fn check(w: &[u64], starts: &mut [u64]) -> u64
-    ensures value { result ≡ fleet-rows (length starts.old) w.now 0 }
+    ensures value { result ≡ fleet_rows (length starts.old) w.now 0 }
     ensures starts { result ≡ 0 → Starts w.now starts.new }
 {
     let mut at: usize = 0;

@@ -1,7 +1,7 @@
 // A fourth score: total and contributions of points on four axes, with the rows that turn the call down.
 ghost use Rattle.std.specs.Prelude.{◌≡◌, ◌∷◌, []};
 ghost use Rattle.words.specs.Format.{within, each};
-ghost use Rattle.four.specs.Count4.{count4-rows, count4, counted4};
+ghost use Rattle.four.specs.Count4.{count4_rows, count4, counted4};
 
 use hypervolume::Point;
 use slices::both;
@@ -34,7 +34,7 @@ fn coordinates_allowed(coords: &[u64]) -> bool
 
 // Rows 4, 17, 20, 6 and 16, in this order.
 fn refusal(rx: u64, ry: u64, rz: u64, rw: u64, coords: &[u64], room: usize) -> u64
-    ensures { result ≡ count4-rows (rx ∷ ry ∷ rz ∷ rw ∷ []) coords.now room }
+    ensures { result ≡ count4_rows (rx ∷ ry ∷ rz ∷ rw ∷ []) coords.now room }
 {
     if !reference_allowed(rx, ry, rz, rw) {
         return 4;

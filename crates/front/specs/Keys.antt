@@ -7,18 +7,18 @@ use Rattle.hypervolume.specs.Sorted.{Small}
 use Rattle.order.specs.Order.{some}
 
 -- A coordinate of the point at a place.
-abbrev pub x-at : List (List ℕ) → ℕ → ℕ
-x-at points i = get_or (get_or points i []) 0 0
+abbrev pub x_at : List (List ℕ) → ℕ → ℕ
+x_at points i = get_or (get_or points i []) 0 0
 
-abbrev pub y-at : List (List ℕ) → ℕ → ℕ
-y-at points i = get_or (get_or points i []) 1 0
+abbrev pub y_at : List (List ℕ) → ℕ → ℕ
+y_at points i = get_or (get_or points i []) 1 0
 
-abbrev pub z-at : List (List ℕ) → ℕ → ℕ
-z-at points i = get_or (get_or points i []) 2 0
+abbrev pub z_at : List (List ℕ) → ℕ → ℕ
+z_at points i = get_or (get_or points i []) 2 0
 
 -- z, then y, then x, as one number.
 abbrev pub standing : List (List ℕ) → ℕ → ℕ
-standing points i = (z-at points i * 2097152 + y-at points i) * 2097152 + x-at points i
+standing points i = (z_at points i * 2097152 + y_at points i) * 2097152 + x_at points i
 
 -- At most 512 points on three axes, with small coordinates, in ascending order of z, then y, then x.
 pub record InOrder (points : List (List ℕ)) : Type 0 where
@@ -28,17 +28,17 @@ pub record InOrder (points : List (List ℕ)) : Type 0 where
   pub rising : (k : ℕ) → suc k < length points → standing points k ≤ standing points (suc k)
 
 -- The place of the first of the points equal to the one at this place.
-unfoldable pub first-at : List (List ℕ) → ℕ → ℕ
-first-at points zero = 0
-first-at points (suc i) = pick (eqb (standing points i) (standing points (suc i))) (first-at points i) (suc i)
+unfoldable pub first_at : List (List ℕ) → ℕ → ℕ
+first_at points zero = 0
+first_at points (suc i) = pick (eqb (standing points i) (standing points (suc i))) (first_at points i) (suc i)
 
 -- The key of the point at a place: x, then that first place.
-abbrev pub key-at : List (List ℕ) → ℕ → ℕ
-key-at points i = x-at points i * 512 + first-at points i
+abbrev pub key_at : List (List ℕ) → ℕ → ℕ
+key_at points i = x_at points i * 512 + first_at points i
 
 -- By their keys: b stands earlier than k and is at most it on y.
 unfoldable pub under : List (List ℕ) → ℕ → ℕ → Bool
-under points b k = both (ltb (b % 512) (k % 512)) (leb (y-at points (b % 512)) (y-at points (k % 512)))
+under points b k = both (ltb (b % 512) (k % 512)) (leb (y_at points (b % 512)) (y_at points (k % 512)))
 
 -- By their keys: b beats k.
 unfoldable pub over : List (List ℕ) → ℕ → ℕ → Bool
@@ -47,8 +47,8 @@ over points b k = both (leb (b / 512) (k / 512)) (under points b k)
 -- The keys of the first i points, without some that are beaten by one of those kept before.
 pub data Sieved (points : List (List ℕ)) : ℕ → List ℕ → Type 0 where
   nothing : Sieved points 0 []
-  kept : {i : ℕ} {keys : List ℕ} → Sieved points i keys → Sieved points (suc i) (keys ++ (key-at points i ∷ []))
-  left : {i : ℕ} {keys : List ℕ} → Sieved points i keys → some (λ b. over points b (key-at points i)) keys ≡ true → Sieved points (suc i) keys
+  kept : {i : ℕ} {keys : List ℕ} → Sieved points i keys → Sieved points (suc i) (keys ++ (key_at points i ∷ []))
+  left : {i : ℕ} {keys : List ℕ} → Sieved points i keys → some (λ b. over points b (key_at points i)) keys ≡ true → Sieved points (suc i) keys
 
 -- How many of the first i keys have none before them under them.
 unfoldable pub alone : List (List ℕ) → List ℕ → ℕ → ℕ

@@ -3,16 +3,16 @@
 use Rattle.std.specs.Prelude.{ℕ, ◌/◌, ◌*◌, ◌%◌, ◌≤◌, ◌<◌, min, ◌≡◌, Bool, List, ◌∷◌, [], leb, ltb, length, get_or}
 use Rattle.slices.specs.Choices.{both, pick}
 use Rattle.hypervolume.specs.Cells.{holds}
-use Rattle.front.specs.Keys.{y-at}
+use Rattle.front.specs.Keys.{y_at}
 
 -- The least y of those keys of the list that pass a test; more than any coordinate where there is none.
-unfoldable pub least-of : (ℕ → Bool) → (ℕ → ℕ) → List ℕ → ℕ
-least-of test y [] = 2097152
-least-of test y (k ∷ keys) = pick (test k) (min (y k) (least-of test y keys)) (least-of test y keys)
+unfoldable pub least_of : (ℕ → Bool) → (ℕ → ℕ) → List ℕ → ℕ
+least_of test y [] = 2097152
+least_of test y (k ∷ keys) = pick (test k) (min (y k) (least_of test y keys)) (least_of test y keys)
 
 -- The y of the point at whose place the key's equals begin.
 abbrev pub y_of : List (List ℕ) → ℕ → ℕ
-y_of points k = y-at points (k % 512)
+y_of points k = y_at points (k % 512)
 
 -- Whether place v comes behind `at` among the same eight.
 unfoldable pub behind : ℕ → ℕ → Bool
@@ -37,17 +37,17 @@ pub record Lowered (old : List ℕ) (at y : ℕ) (new : List ℕ) : Type 0 where
 -- One y entered in the three levels at place g, and whether it is less than all before.
 pub record Entered (high middle low : List ℕ) (g y r : ℕ) (high_after middle-after low-after : List ℕ) : Type 0 where
   pub told : r ≡ holds (ltb y (min (get_or high (g / 64) 0) (min (get_or middle (g / 8) 0) (get_or low g 0))))
-  pub in-high : Lowered high (g / 64) y high_after
-  pub in-middle : Lowered middle (g / 8) y middle-after
-  pub in-low : Lowered low g y low-after
+  pub in_high : Lowered high (g / 64) y high_after
+  pub in_middle : Lowered middle (g / 8) y middle-after
+  pub in_low : Lowered low g y low-after
 
 -- A level over the keys taken; `place` tells where a key is entered in it.
 pub record Level (place : ℕ → ℕ) (points : List (List ℕ)) (taken level : List ℕ) : Type 0 where
-  pub each : (v : ℕ) → v < length level → get_or level v 0 ≡ least-of (λ k. behind (place k) v) (y_of points) taken
+  pub each : (v : ℕ) → v < length level → get_or level v 0 ≡ least_of (λ k. behind (place k) v) (y_of points) taken
 
 -- The least y of the keys taken that stand before place g.
-abbrev pub least-before : List (List ℕ) → List ℕ → ℕ → ℕ
-least-before points taken g = least-of (λ k. ltb (k % 512) g) (y_of points) taken
+abbrev pub least_before : List (List ℕ) → List ℕ → ℕ → ℕ
+least_before points taken g = least_of (λ k. ltb (k % 512) g) (y_of points) taken
 
 -- A level of n places in which nothing is entered.
 pub record Empty (n : ℕ) (level : List ℕ) : Type 0 where

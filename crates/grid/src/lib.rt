@@ -1,9 +1,9 @@
 // A whole grid of trials in one call: each entered in turn, up to the first that is turned down. Rows 1 to 3 are judged once
 // before, and the front is counted once after.
 ghost use Rattle.std.specs.Prelude.{◌≡◌, ◌+◌, ◌*◌, ◌≤◌, length, drop};
-ghost use Rattle.words.specs.Format.{archive-rows};
+ghost use Rattle.words.specs.Format.{archive_rows};
 ghost use Rattle.words.specs.Places.{as_row};
-ghost use Rattle.calls.specs.Grid.{grid-trial, grid-trials, insert-grid};
+ghost use Rattle.calls.specs.Grid.{grid_trial, grid_trials, insert_grid};
 ghost use Rattle.grid.specs.Filling.{Fills};
 
 use calls::GridAnswer;
@@ -14,7 +14,7 @@ use words::{Row, refusal};
 // The trial at place i of the grid.
 fn trial_at(grid: &[u64], i: usize) -> Row
     requires { 4 * i + 4 ≤ length grid.now }
-    ensures { (as_row result).trial ≡ grid-trial (drop (4 * i) grid.now) }
+    ensures { (as_row result).trial ≡ grid_trial (drop (4 * i) grid.now) }
 {
     let at = 4 * i;
     let number = grid[at];
@@ -32,8 +32,8 @@ fn trial_at(grid: &[u64], i: usize) -> Row
 
 // Enters the trials in turn, up to the first that rows 5 to 8 or 13 turn down. The front stays as it was.
 fn fill(w: &mut [u64], grid: &[u64]) -> GridAnswer
-    requires { archive-rows w.old 0 ≡ 0 }
-    ensures { Fills w.old (grid-trials grid.now) result w.new }
+    requires { archive_rows w.old 0 ≡ 0 }
+    ensures { Fills w.old (grid_trials grid.now) result w.new }
 {
     let mut points = [[0u32, 0, 0]; 512];
     let mut corners = [[0u32, 0, 0]; 512];
@@ -70,7 +70,7 @@ fn fill(w: &mut [u64], grid: &[u64]) -> GridAnswer
 
 // Insert-grid (grid): how many went in, and the refusal number that stopped it, or 0.
 pub fn insert_grid(w: &mut [u64], grid: &[u64]) -> GridAnswer
-    ensures { (result ≡ (insert-grid w.old grid.now).answer) × (w.new ≡ (insert-grid w.old grid.now).words) }
+    ensures { (result ≡ (insert_grid w.old grid.now).answer) × (w.new ≡ (insert_grid w.old grid.now).words) }
 {
     if grid.len() % 4 != 0 {
         return GridAnswer::refused(17);

@@ -5,7 +5,7 @@ use mathlib.Core.Logic.{◌⊎◌, inl, inr}
 use mathlib.Core.List.Memᴰ
 use mathlib.Core.List.{List, ◌∷◌, ◌++◌, Memᴰ, []}
 use Rattle.hypervolume.specs.Counts.{contribution}
-use Rattle.hypervolume.proofs.Counting.{equal-trials-contribute-0}
+use Rattle.hypervolume.proofs.Counting.{equal_trials_contribute_0}
 use Rattle.words.specs.Archive.{Trial, point, points}
 
 record Once (p : List ℕ) (l : List (List ℕ)) : Type 0 where
@@ -30,8 +30,8 @@ record Twice (p : List ℕ) (l : List (List ℕ)) : Type 0 where
   parts : l ≡ front ++ (p ∷ (back ++ (p ∷ more)))
 
 -- One of them in front, the other later.
-here-and-later : (p q : List ℕ) (l : List (List ℕ)) → q ≡ p → Memᴰ p l → Twice p (q ∷ l)
-here-and-later p q l e m =
+here_and_later : (p q : List ℕ) (l : List (List ℕ)) → q ≡ p → Memᴰ p l → Twice p (q ∷ l)
+here_and_later p q l e m =
     let o = once p l m in
     record { front = []; back = o.front; more = o.more; parts = rw (e, ← o.parts) }
 
@@ -45,15 +45,15 @@ twice t u (x ∷ ts) m n d e = go (λ k j. twice t u ts k j d e) (Memᴰ.cases_c
         → Twice (point t) (points (x ∷ ts))
     go later (inl p) (inl q) = absurd (d (ap (λ a. a.number) (p ∙ sym q)))
     go later (inl p) (inr k) =
-        here-and-later (point t) (point x) (points ts) (ap point (sym p)) (rw e (Memᴰ.map point k))
-    go later (inr k) (inl q) = here-and-later (point t) (point x) (points ts) (ap point (sym q) ∙ sym e) (Memᴰ.map point k)
+        here_and_later (point t) (point x) (points ts) (ap point (sym p)) (rw e (Memᴰ.map point k))
+    go later (inr k) (inl q) = here_and_later (point t) (point x) (points ts) (ap point (sym q) ∙ sym e) (Memᴰ.map point k)
     go later (inr k) (inr j) =
         let both = later k j in
         record { front = point x ∷ both.front; back = both.back; more = both.more; parts = ap (λ l. point x ∷ l) both.parts }
 
-pub equal-contribute-0 : (r : List ℕ) (t u : Trial) (ts : List Trial) → Memᴰ t ts → Memᴰ u ts
+pub equal_contribute_0 : (r : List ℕ) (t u : Trial) (ts : List Trial) → Memᴰ t ts → Memᴰ u ts
     → (t.number ≡ u.number → ⊥) → point t ≡ point u → contribution r (points ts) (point t) ≡ 0
-equal-contribute-0 r t u ts m n d e =
+equal_contribute_0 r t u ts m n d e =
     let two = twice t u ts m n d e in
     ap (λ l. contribution r l (point t)) two.parts
-    ∙ equal-trials-contribute-0 r two.front two.back two.more (point t)
+    ∙ equal_trials_contribute_0 r two.front two.back two.more (point t)

@@ -34,13 +34,13 @@ pub record Turn : Type 0 where
   pub reply : Reply
 
 -- One of two turns: refused where the condition holds.
-unfoldable pub refuse-if : Bool → ℕ → Book → Turn → Turn
-refuse-if true number b otherwise = record { book = b; reply = record { refusal = number; value = 0; notes = [] } }
-refuse-if false number b otherwise = otherwise
+unfoldable pub refuse_if : Bool → ℕ → Book → Turn → Turn
+refuse_if true number b otherwise = record { book = b; reply = record { refusal = number; value = 0; notes = [] } }
+refuse_if false number b otherwise = otherwise
 
 -- "Refused by row 1 where its archive slice is shorter than 8 + 5 × capacity."
-unfoldable pub row-1 : ℕ → Book → Turn → Turn
-row-1 slice b otherwise = refuse-if (ltb slice (8 + 5 * b.capacity)) 1 b otherwise
+unfoldable pub row_1 : ℕ → Book → Turn → Turn
+row_1 slice b otherwise = refuse_if (ltb slice (8 + 5 * b.capacity)) 1 b otherwise
 
 -- Whether the book has a trial of this number.
 unfoldable pub has : ℕ → List Trial → Bool
@@ -53,9 +53,9 @@ entered t b =
     record { capacity = b.capacity; rx = b.rx; ry = b.ry; rz = b.rz; trials = t ∷ b.trials }
 
 -- "Remove strikes it out."
-unfoldable pub struck-out : ℕ → List Trial → List Trial
-struck-out n [] = []
-struck-out n (t ∷ ts) = pick (eqb n t.number) (struck-out n ts) (t ∷ struck-out n ts)
+unfoldable pub struck_out : ℕ → List Trial → List Trial
+struck_out n [] = []
+struck_out n (t ∷ ts) = pick (eqb n t.number) (struck_out n ts) (t ∷ struck_out n ts)
 
 unfoldable pub struck : ℕ → Book → Book
 struck n b =
@@ -64,89 +64,89 @@ struck n b =
       rx = b.rx;
       ry = b.ry;
       rz = b.rz;
-      trials = struck-out n b.trials;
+      trials = struck_out n b.trials;
     }
 
 -- Rows 5 to 8, "with held, count, capacity and reference read from the book"; then insert enters the trial. "Row 6 is
 -- given only above 1,048,576" (document 02, W-201), so the reference is not asked.
-unfoldable pub book-insert : ℕ → Trial → Book → Turn
-book-insert slice t b =
-    row-1 slice b
-    (refuse-if (either (ltb t.number 1) (ltb 9999999 t.number)) 5 b
-    (refuse-if (either (ltb 1048576 t.x) (either (ltb 1048576 t.y) (ltb 1048576 t.z))) 6 b
-    (refuse-if (has t.number b.trials) 7 b
-    (refuse-if (eqb (length b.trials) b.capacity) 8 b
+unfoldable pub book_insert : ℕ → Trial → Book → Turn
+book_insert slice t b =
+    row_1 slice b
+    (refuse_if (either (ltb t.number 1) (ltb 9999999 t.number)) 5 b
+    (refuse_if (either (ltb 1048576 t.x) (either (ltb 1048576 t.y) (ltb 1048576 t.z))) 6 b
+    (refuse_if (has t.number b.trials) 7 b
+    (refuse_if (eqb (length b.trials) b.capacity) 8 b
     (record { book = entered t b; reply = record { refusal = 0; value = 0; notes = [] } })))))
 
 -- Row 9; then remove strikes the trial out.
-unfoldable pub book-remove : ℕ → ℕ → Book → Turn
-book-remove slice n b =
-    row-1 slice b
-    (refuse-if (not (has n b.trials)) 9 b
+unfoldable pub book_remove : ℕ → ℕ → Book → Turn
+book_remove slice n b =
+    row_1 slice b
+    (refuse_if (not (has n b.trials)) 9 b
     (record { book = struck n b; reply = record { refusal = 0; value = 0; notes = [] } }))
 
 -- "Contributions are counted on the trials then remaining."
-unfoldable pub counted-contribution : Book → Trial → ℕ
-counted-contribution b t = contribution (b.rx ∷ b.ry ∷ b.rz ∷ []) (map point b.trials) (point t)
+unfoldable pub counted_contribution : Book → Trial → ℕ
+counted_contribution b t = contribution (b.rx ∷ b.ry ∷ b.rz ∷ []) (map point b.trials) (point t)
 
 -- "Among equal least contributors the lowest trial number now goes"; "1 the highest" (document 02, W-206): the one of t and u that
 -- goes where they contribute alike.
-unfoldable pub at-a-tie : (rule : ℕ) → Trial → Trial → Trial
-at-a-tie zero t u = pick (ltb t.number u.number) t u
-at-a-tie (suc other) t u = pick (ltb u.number t.number) t u
+unfoldable pub at_a_tie : (rule : ℕ) → Trial → Trial → Trial
+at_a_tie zero t u = pick (ltb t.number u.number) t u
+at_a_tie (suc other) t u = pick (ltb u.number t.number) t u
 
 -- "The least goes, among equals by the rule of Least": the one of t and u that goes.
 unfoldable pub rather : (rule : ℕ) → Book → Trial → Trial → Trial
 rather rule b t u =
-    pick (ltb (counted-contribution b t) (counted-contribution b u)) t
-    (pick (ltb (counted-contribution b u) (counted-contribution b t)) u (at-a-tie rule t u))
+    pick (ltb (counted_contribution b t) (counted_contribution b u)) t
+    (pick (ltb (counted_contribution b u) (counted_contribution b t)) u (at_a_tie rule t u))
 
-unfoldable pub least-of : (rule : ℕ) → Book → Trial → List Trial → Trial
-least-of rule b t [] = t
-least-of rule b t (u ∷ ts) = least-of rule b (rather rule b t u) ts
+unfoldable pub least_of : (rule : ℕ) → Book → Trial → List Trial → Trial
+least_of rule b t [] = t
+least_of rule b t (u ∷ ts) = least_of rule b (rather rule b t u) ts
 
-unfoldable pub least-trial : (rule : ℕ) → Book → List Trial → Trial
-least-trial rule b [] = record { number = 0; x = 0; y = 0; z = 0 }
-least-trial rule b (t ∷ ts) = least-of rule b t ts
+unfoldable pub least_trial : (rule : ℕ) → Book → List Trial → Trial
+least_trial rule b [] = record { number = 0; x = 0; y = 0; z = 0 }
+least_trial rule b (t ∷ ts) = least_of rule b t ts
 
 -- "The book notes its number and that count."
-unfoldable pub book-note : (rule : ℕ) → Book → List ℕ
-book-note rule b =
-    (least-trial rule b b.trials).number ∷ counted-contribution b (least-trial rule b b.trials) ∷ []
+unfoldable pub book_note : (rule : ℕ) → Book → List ℕ
+book_note rule b =
+    (least_trial rule b b.trials).number ∷ counted_contribution b (least_trial rule b b.trials) ∷ []
 
 -- "Strikes out one trial at a time": n of them.
 unfoldable pub thinned : (rule : ℕ) → ℕ → Book → Book
 thinned rule zero b = b
-thinned rule (suc n) b = thinned rule n (struck (least-trial rule b b.trials).number b)
+thinned rule (suc n) b = thinned rule n (struck (least_trial rule b b.trials).number b)
 
-unfoldable pub book-notes : (rule : ℕ) → ℕ → Book → List ℕ
-book-notes rule zero b = []
-book-notes rule (suc n) b =
-    book-note rule b ++ book-notes rule n (struck (least-trial rule b b.trials).number b)
+unfoldable pub book_notes : (rule : ℕ) → ℕ → Book → List ℕ
+book_notes rule zero b = []
+book_notes rule (suc n) b =
+    book_note rule b ++ book_notes rule n (struck (least_trial rule b b.trials).number b)
 
 -- Row 18, a "tie rule neither 0 nor 1", and rows 11 and 12; then reduce strikes out "until k remain" and "answers how many it
 -- struck out".
-unfoldable pub book-reduce : (slice k rule log : ℕ) → Book → Turn
-book-reduce slice k rule log b =
-    row-1 slice b
-    (refuse-if (ltb 1 rule) 18 b
-    (refuse-if (ltb (length b.trials) k) 11 b
-    (refuse-if (ltb log (2 * (length b.trials - k))) 12 b
+unfoldable pub book_reduce : (slice k rule log : ℕ) → Book → Turn
+book_reduce slice k rule log b =
+    row_1 slice b
+    (refuse_if (ltb 1 rule) 18 b
+    (refuse_if (ltb (length b.trials) k) 11 b
+    (refuse_if (ltb log (2 * (length b.trials - k))) 12 b
     (record {
       book = thinned rule (length b.trials - k) b;
       reply =
           record {
             refusal = 0;
             value = length b.trials - k;
-            notes = book-notes rule (length b.trials - k) b;
+            notes = book_notes rule (length b.trials - k) b;
           };
     }))))
 
 -- One call on the book.
-unfoldable pub book-turn : Request → Book → Turn
-book-turn (insert slice t) b = book-insert slice t b
-book-turn (remove slice n) b = book-remove slice n b
-book-turn (reduce slice k rule log) b = book-reduce slice k rule log b
+unfoldable pub book_turn : Request → Book → Turn
+book_turn (insert slice t) b = book_insert slice t b
+book_turn (remove slice n) b = book_remove slice n b
+book_turn (reduce slice k rule log) b = book_reduce slice k rule log b
 
 -- "On the front: those for which no other trial is at most equal on all axes and smaller on at least one" (document 02, W-209).
 -- Whether t is so beside u; whether no trial of a list is so beside t; how many trials of a list no trial of all is so beside.
@@ -156,16 +156,16 @@ better t u =
     (both (leb t.y u.y)
     (both (leb t.z u.z) (either (ltb t.x u.x) (either (ltb t.y u.y) (ltb t.z u.z)))))
 
-unfoldable pub none-better : List Trial → Trial → Bool
-none-better [] t = true
-none-better (u ∷ ts) t = both (not (better u t)) (none-better ts t)
+unfoldable pub none_better : List Trial → Trial → Bool
+none_better [] t = true
+none_better (u ∷ ts) t = both (not (better u t)) (none_better ts t)
 
-unfoldable pub on-front : List Trial → List Trial → ℕ
-on-front all [] = 0
-on-front all (t ∷ ts) = pick (none-better all t) (suc (on-front all ts)) (on-front all ts)
+unfoldable pub on_front : List Trial → List Trial → ℕ
+on_front all [] = 0
+on_front all (t ∷ ts) = pick (none_better all t) (suc (on_front all ts)) (on_front all ts)
 
-unfoldable pub book-front : Book → ℕ
-book-front b = on-front b.trials b.trials
+unfoldable pub book_front : Book → ℕ
+book_front b = on_front b.trials b.trials
 
 -- "After a start that is done it has that start's reference and capacity and no trial."
 unfoldable pub opened : (capacity rx ry rz : ℕ) → Book

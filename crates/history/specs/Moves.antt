@@ -5,22 +5,22 @@ use Rattle.std.specs.Prelude.{ℕ, ◌+◌, ◌*◌, ◌≡◌, true, List, leng
 use Rattle.words.specs.Archive.{Trial, Row}
 use Rattle.words.specs.Layout.{read}
 use Rattle.words.specs.Format.{held}
-use Rattle.calls.specs.Calls.{held-trials, row_of}
-use Rattle.calls.specs.Drops.{Drops, noted-sum}
+use Rattle.calls.specs.Calls.{held_trials, row_of}
+use Rattle.calls.specs.Drops.{Drops, noted_sum}
 use Rattle.calls.specs.Lent.{insert, remove, reduce, joint}
 
 -- These words hold a trial of this number; its record there.
 abbrev pub Held : List ℕ → ℕ → Type 0
-Held w n = held n (held-trials (read w)) ≡ true
+Held w n = held n (held_trials (read w)) ≡ true
 
 abbrev pub record_of : List ℕ → ℕ → Row
 record_of w n = row_of n (read w).rows
 
 -- The trial n while t is inserted. The joint call is asked on the words just after.
 pub record Lowered (w : List ℕ) (t : Trial) (n : ℕ) : Type 0 where
-  pub still-held : Held (insert w t).words n
-  pub same-trial : (record_of (insert w t).words n).trial ≡ (record_of w n).trial
-  pub joint-done : (joint (insert w t).words t.number n).refusal ≡ 0
+  pub still_held : Held (insert w t).words n
+  pub same_trial : (record_of (insert w t).words n).trial ≡ (record_of w n).trial
+  pub joint_done : (joint (insert w t).words t.number n).refusal ≡ 0
   pub lowered : (record_of w n).kept ≡ (record_of (insert w t).words n).kept + (joint (insert w t).words t.number n).value
 
 -- "Each insertion done lowers, and each removal done raises, every other trial's contribution by exactly their joint
@@ -30,9 +30,9 @@ InsertionLowers = (w : List ℕ) (t : Trial) → (insert w t).refusal ≡ 0 → 
 
 -- The trial m while n is removed. The joint call is asked on the words just before.
 pub record Raised (w : List ℕ) (n m : ℕ) : Type 0 where
-  pub still-held : Held (remove w n).words m
-  pub same-trial : (record_of (remove w n).words m).trial ≡ (record_of w m).trial
-  pub joint-done : (joint w n m).refusal ≡ 0
+  pub still_held : Held (remove w n).words m
+  pub same_trial : (record_of (remove w n).words m).trial ≡ (record_of w m).trial
+  pub joint_done : (joint w n m).refusal ≡ 0
   pub raised : (record_of (remove w n).words m).kept ≡ (record_of w m).kept + (joint w n m).value
 
 -- and the removal:
@@ -47,7 +47,7 @@ logged w k rule log = take (2 * (reduce w k rule log).value) (reduce w k rule lo
 pub record Reduced (w : List ℕ) (k rule : ℕ) (log : List ℕ) : Type 0 where
   pub drops : Drops rule (read w) (logged w k rule log) (read (reduce w k rule log).words)
   pub left : length (read (reduce w k rule log).words).rows ≡ k
-  pub adds-up : (read w).sum ≡ (read (reduce w k rule log).words).sum + noted-sum (logged w k rule log)
+  pub adds_up : (read w).sum ≡ (read (reduce w k rule log).words).sum + noted_sum (logged w k rule log)
 
 -- "Each drop of a reduction takes a least contributor among the trials then held, and the contributions that a
 -- reduction logs add up to the total before it less the total after it."

@@ -5,7 +5,7 @@ use Rattle.words.specs.Archive.{Shape}
 use Rattle.words.specs.Layout.{word, read, extent}
 use Rattle.calls.specs.Calls.{row_of}
 use Rattle.calls.specs.Lent
-use Rattle.calls.specs.Lent.{trial-of}
+use Rattle.calls.specs.Lent.{trial_of}
 
 -- A call or a question put to an archive's words.
 pub data Step : Type 0 where
@@ -21,7 +21,7 @@ pub data Step : Type 0 where
 
 -- The words after it.
 unfoldable pub step_words : Step → List ℕ → List ℕ
-step_words (insert n x y z) w = (Lent.insert w (trial-of n x y z)).words
+step_words (insert n x y z) w = (Lent.insert w (trial_of n x y z)).words
 step_words (remove n) w = (Lent.remove w n).words
 step_words (reduce k rule log) w = (Lent.reduce w k rule log).words
 step_words (least rule) w = w
@@ -33,20 +33,20 @@ step_words (contribution n) w = w
 
 -- What comes out: of a call the refusal and then its answer, of a reduction the log too; the kept total; a kept
 -- contribution.
-unfoldable pub step-answer : Step → List ℕ → List ℕ
-step-answer (insert n x y z) w = (Lent.insert w (trial-of n x y z)).refusal ∷ []
-step-answer (remove n) w = (Lent.remove w n).refusal ∷ []
-step-answer (reduce k rule log) w =
+unfoldable pub step_answer : Step → List ℕ → List ℕ
+step_answer (insert n x y z) w = (Lent.insert w (trial_of n x y z)).refusal ∷ []
+step_answer (remove n) w = (Lent.remove w n).refusal ∷ []
+step_answer (reduce k rule log) w =
     (Lent.reduce w k rule log).refusal ∷ (Lent.reduce w k rule log).value ∷ (Lent.reduce w k rule log).log
-step-answer (least rule) w =
+step_answer (least rule) w =
     (Lent.least w rule).refusal ∷ (Lent.least w rule).number ∷ (Lent.least w rule).contribution ∷ []
-step-answer (joint m n) w = (Lent.joint w m n).refusal ∷ (Lent.joint w m n).value ∷ []
-step-answer (gain x y z) w =
-    (Lent.gain-answer w (trial-of 0 x y z)).refusal
-    ∷ (Lent.gain-answer w (trial-of 0 x y z)).value ∷ []
-step-answer share w = (Lent.share w).refusal ∷ (Lent.share w).value ∷ []
-step-answer total w = word w 5 ∷ []
-step-answer (contribution n) w = (row_of n (read w).rows).kept ∷ []
+step_answer (joint m n) w = (Lent.joint w m n).refusal ∷ (Lent.joint w m n).value ∷ []
+step_answer (gain x y z) w =
+    (Lent.gain_answer w (trial_of 0 x y z)).refusal
+    ∷ (Lent.gain_answer w (trial_of 0 x y z)).value ∷ []
+step_answer share w = (Lent.share w).refusal ∷ (Lent.share w).value ∷ []
+step_answer total w = word w 5 ∷ []
+step_answer (contribution n) w = (row_of n (read w).rows).kept ∷ []
 
 -- A step and what must come out.
 pub data Line : Type 0 where
@@ -54,7 +54,7 @@ pub data Line : Type 0 where
 
 unfoldable pub answers : List ℕ → List Line → List (List ℕ)
 answers w [] = []
-answers w (gives s a ∷ lines) = step-answer s w ∷ answers (step_words s w) lines
+answers w (gives s a ∷ lines) = step_answer s w ∷ answers (step_words s w) lines
 
 unfoldable pub asked : List Line → List (List ℕ)
 asked [] = []

@@ -13,8 +13,8 @@ use lib.Seq.{drop-cons, drop-length}
 use borrow.Author.Tests.{ne_eqb}
 use Rattle.slices.specs.Choices.{both}
 use Rattle.hypervolume.specs.Cells.{holds, dominates, join, edges}
-use Rattle.hypervolume.specs.Axes.{axes-within}
-use Rattle.hypervolume.proofs.Tests.{holds-le-one, Compared, below, above, compared}
+use Rattle.hypervolume.specs.Axes.{axes_within}
+use Rattle.hypervolume.proofs.Tests.{holds_le_one, Compared, below, above, compared}
 
 -- Two points of n axes, of which the first have been gone through.
 pub record Along (n : ℕ) (p q : List ℕ) (axis : ℕ) : Type 0 where
@@ -22,8 +22,8 @@ pub record Along (n : ℕ) (p q : List ℕ) (axis : ℕ) : Type 0 where
   pub right : length q ≡ n
   pub within : axis ≤ n
 
-along-more : {n : ℕ} {p q : List ℕ} {axis : ℕ} → Along n p q axis → axis < n → Along n p q (axis + 1)
-along-more h l = record { left = h.left; right = h.right; within = omega arith }
+along_more : {n : ℕ} {p q : List ℕ} {axis : ℕ} → Along n p q axis → axis < n → Along n p q (axis + 1)
+along_more h l = record { left = h.left; right = h.right; within = omega arith }
 
 -- The upper corner: p with its first k axes raised to those of q.
 unfoldable pub raised : ℕ → List ℕ → List ℕ → List ℕ
@@ -36,56 +36,56 @@ pub record Joined (n : ℕ) (p q corner : List ℕ) (axis : ℕ) : Type 0 where
   pub along : Along n p q axis
   pub so_far : corner ≡ raised axis p q
 
-pub joined-none : (n : ℕ) (p q : List ℕ) → length p ≡ n → length q ≡ n → Joined n p q p 0
+pub joined_none : (n : ℕ) (p q : List ℕ) → length p ≡ n → length q ≡ n → Joined n p q p 0
 unfolding raised
-joined-none n p q e f = record { along = record { left = e; right = f; within = omega arith }; so_far = refl }
+joined_none n p q e f = record { along = record { left = e; right = f; within = omega arith }; so_far = refl }
 
-raised-more : (k : ℕ) (p q : List ℕ) → k < length p → k < length q → set (raised k p q) k (max (get_or (raised k p q) k 0) (get_or q k 0)) ≡ raised (suc k) p q
+raised_more : (k : ℕ) (p q : List ℕ) → k < length p → k < length q → set (raised k p q) k (max (get_or (raised k p q) k 0) (get_or q k 0)) ≡ raised (suc k) p q
 unfolding raised
-raised-more k [] q l m = absurd (let no' : ⊥ = omega arith in no')
-raised-more k (x ∷ p) [] l m = absurd (let no' : ⊥ = omega arith in no')
-raised-more zero (x ∷ p) (y ∷ q) l m = refl
-raised-more (suc k) (x ∷ p) (y ∷ q) l m = ap (λ t. max x y ∷ t) (raised-more k p q (omega arith) (omega arith))
+raised_more k [] q l m = absurd (let no' : ⊥ = omega arith in no')
+raised_more k (x ∷ p) [] l m = absurd (let no' : ⊥ = omega arith in no')
+raised_more zero (x ∷ p) (y ∷ q) l m = refl
+raised_more (suc k) (x ∷ p) (y ∷ q) l m = ap (λ t. max x y ∷ t) (raised_more k p q (omega arith) (omega arith))
 
-pub joined-more : {n : ℕ} {p q corner : List ℕ} {axis larger : ℕ} → Joined n p q corner axis → axis < n → larger ≡ max (get_or corner axis 0) (get_or q axis 0) → Joined n p q (set corner axis larger) (axis + 1)
-joined-more {n} {p} {q} {corner} {axis} h l e =
+pub joined_more : {n : ℕ} {p q corner : List ℕ} {axis larger : ℕ} → Joined n p q corner axis → axis < n → larger ≡ max (get_or corner axis 0) (get_or q axis 0) → Joined n p q (set corner axis larger) (axis + 1)
+joined_more {n} {p} {q} {corner} {axis} h l e =
     let m : axis < length p = omega arith in
     let o : axis < length q = omega arith in
-    record { along = along-more h.along l; so_far = rw (e, h.so_far, add-one axis) (raised-more axis p q m o) }
+    record { along = along_more h.along l; so_far = rw (e, h.so_far, add-one axis) (raised_more axis p q m o) }
 
-raised-end : (p q : List ℕ) → length p ≡ length q → raised (length p) p q ≡ join p q
+raised_end : (p q : List ℕ) → length p ≡ length q → raised (length p) p q ≡ join p q
 unfolding raised join
-raised-end [] [] e = refl
-raised-end [] (y ∷ q) e = absurd (let no' : ⊥ = omega arith in no')
-raised-end (x ∷ p) [] e = refl
-raised-end (x ∷ p) (y ∷ q) e = ap (λ t. max x y ∷ t) (raised-end p q (omega arith))
+raised_end [] [] e = refl
+raised_end [] (y ∷ q) e = absurd (let no' : ⊥ = omega arith in no')
+raised_end (x ∷ p) [] e = refl
+raised_end (x ∷ p) (y ∷ q) e = ap (λ t. max x y ∷ t) (raised_end p q (omega arith))
 
 pub joined_end : {n : ℕ} {p q corner : List ℕ} {axis : ℕ} → Joined n p q corner axis → n ≤ axis → corner ≡ join p q
 joined_end {n} {p} {q} {corner} {axis} h l =
     let last : axis ≡ length p = omega arith in
-    h.so_far ∙ ap (λ k. raised k p q) last ∙ raised-end p q (omega arith)
+    h.so_far ∙ ap (λ k. raised k p q) last ∙ raised_end p q (omega arith)
 
 -- A test of two coordinates, as a bit.
-pub at-most-bit : (x y : ℕ) → x < 4294967296 → y < 4294967296 → (y + 4294967296 - x) / 4294967296 ≡ holds (leb x y)
+pub at_most_bit : (x y : ℕ) → x < 4294967296 → y < 4294967296 → (y + 4294967296 - x) / 4294967296 ≡ holds (leb x y)
 unfolding holds
-at-most-bit x y l m = go (leb x y) (compared x y)
+at_most_bit x y l m = go (leb x y) (compared x y)
   where
     go : (b : Bool) → Compared x y b → (y + 4294967296 - x) / 4294967296 ≡ holds b
     go true (below n) = omega arith
     go false (above n) = omega arith
 
 -- The edge length of two numbers: the quotient is the bit above, and up to the reference the remainder is the length.
-pub edge-length : (r x : ℕ) → r < 4294967296 → x < 4294967296 → (r + 4294967296 - x) / 4294967296 * ((r + 4294967296 - x) % 4294967296) ≡ r - x
+pub edge_length : (r x : ℕ) → r < 4294967296 → x < 4294967296 → (r + 4294967296 - x) / 4294967296 * ((r + 4294967296 - x) % 4294967296) ≡ r - x
 unfolding holds
-edge-length r x l m = rw (at-most-bit x r m l) (go (leb x r) (compared x r))
+edge_length r x l m = rw (at_most_bit x r m l) (go (leb x r) (compared x r))
   where
     go : (b : Bool) → Compared x r b → holds b * ((r + 4294967296 - x) % 4294967296) ≡ r - x
     go true (below n) = omega arith
     go false (above n) = omega arith
 
 -- Two halves of a word, multiplied, fit a word.
-pub halves-fit : {a b : ℕ} → a < 4294967296 → b < 4294967296 → a * b < 2 ^ 64
-halves-fit {a} {b} l m =
+pub halves_fit : {a b : ℕ} → a < 4294967296 → b < 4294967296 → a * b < 2 ^ 64
+halves_fit {a} {b} l m =
     let left : a ≤ 4294967295 = omega arith in
     let right : b ≤ 4294967295 = omega arith in
     let most : a * b ≤ 4294967295 * 4294967295 = mul-le-mul left right in
@@ -94,53 +94,53 @@ halves-fit {a} {b} l m =
 -- How many axes are within: those so far, and those left.
 pub record AxesCounted (n : ℕ) (p q : List ℕ) (axes axis : ℕ) : Type 0 where
   pub along : Along n p q axis
-  pub so_far : axes + axes-within (drop axis p) (drop axis q) ≡ axes-within p q
+  pub so_far : axes + axes_within (drop axis p) (drop axis q) ≡ axes_within p q
   pub most : axes ≤ axis
 
 pub counted_none : (n : ℕ) (p q : List ℕ) → length p ≡ n → length q ≡ n → AxesCounted n p q 0 0
 counted_none n p q e f =
     record { along = record { left = e; right = f; within = omega arith }; so_far = omega arith; most = omega arith }
 
-pub counted-more : {n : ℕ} {p q : List ℕ} {axes axis one : ℕ} → AxesCounted n p q axes axis → axis < n → one ≡ holds (leb (get_or p axis 0) (get_or q axis 0)) → AxesCounted n p q (axes + one) (axis + 1)
-unfolding axes-within
-counted-more {n} {p} {q} {axes} {axis} {one} h l e =
+pub counted_more : {n : ℕ} {p q : List ℕ} {axes axis one : ℕ} → AxesCounted n p q axes axis → axis < n → one ≡ holds (leb (get_or p axis 0) (get_or q axis 0)) → AxesCounted n p q (axes + one) (axis + 1)
+unfolding axes_within
+counted_more {n} {p} {q} {axes} {axis} {one} h l e =
     let m : axis < length p = omega arith in
     let o : axis < length q = omega arith in
-    let left : axes + (one + axes-within (drop (suc axis) p) (drop (suc axis) q)) ≡ axes-within p q =
+    let left : axes + (one + axes_within (drop (suc axis) p) (drop (suc axis) q)) ≡ axes_within p q =
     rw e (rw (drop-cons p axis 0 m, drop-cons q axis 0 o) at h.so_far) in
     record {
-      along = along-more h.along l;
+      along = along_more h.along l;
       so_far = rw (add-one axis) (omega arith);
-      most = omega (arith, h.most, holds-le-one (leb (get_or p axis 0) (get_or q axis 0)));
+      most = omega (arith, h.most, holds_le_one (leb (get_or p axis 0) (get_or q axis 0)));
     }
 
-pub counted-end : {n : ℕ} {p q : List ℕ} {axes axis : ℕ} → AxesCounted n p q axes axis → n ≤ axis → axes ≡ axes-within p q
-unfolding axes-within
-counted-end {n} {p} {q} {axes} {axis} h l =
+pub counted_end : {n : ℕ} {p q : List ℕ} {axes axis : ℕ} → AxesCounted n p q axes axis → n ≤ axis → axes ≡ axes_within p q
+unfolding axes_within
+counted_end {n} {p} {q} {axes} {axis} h l =
     let last : axis ≡ length p = omega arith in
-    let all : axes + 0 ≡ axes-within p q = rw (last, drop-length p) at h.so_far in
+    let all : axes + 0 ≡ axes_within p q = rw (last, drop-length p) at h.so_far in
     omega arith
 
 -- No point is within on more axes than it has; where it is on all of them, it dominates.
-pub axes-most : (p q : List ℕ) → axes-within p q ≤ length p
-unfolding axes-within
-axes-most [] q = omega arith
-axes-most (x ∷ p) [] = omega arith
-axes-most (x ∷ p) (y ∷ q) = omega (arith, holds-le-one (leb x y), axes-most p q)
+pub axes_most : (p q : List ℕ) → axes_within p q ≤ length p
+unfolding axes_within
+axes_most [] q = omega arith
+axes_most (x ∷ p) [] = omega arith
+axes_most (x ∷ p) (y ∷ q) = omega (arith, holds_le_one (leb x y), axes_most p q)
 
-axes-dominate : (p q : List ℕ) → length p ≡ length q → eqb (axes-within p q) (length p) ≡ dominates p q
-unfolding axes-within dominates both holds
-axes-dominate [] [] e = refl
-axes-dominate [] (y ∷ q) e = absurd (let no' : ⊥ = omega arith in no')
-axes-dominate (x ∷ p) [] e = absurd (let no' : ⊥ = omega arith in no')
-axes-dominate (x ∷ p) (y ∷ q) e = go (leb x y) (axes-dominate p q (omega arith)) (axes-most p q)
+axes_dominate : (p q : List ℕ) → length p ≡ length q → eqb (axes_within p q) (length p) ≡ dominates p q
+unfolding axes_within dominates both holds
+axes_dominate [] [] e = refl
+axes_dominate [] (y ∷ q) e = absurd (let no' : ⊥ = omega arith in no')
+axes_dominate (x ∷ p) [] e = absurd (let no' : ⊥ = omega arith in no')
+axes_dominate (x ∷ p) (y ∷ q) e = go (leb x y) (axes_dominate p q (omega arith)) (axes_most p q)
   where
-    go : (b : Bool) → eqb (axes-within p q) (length p) ≡ dominates p q → axes-within p q ≤ length p → eqb (holds b + axes-within p q) (suc (length p)) ≡ both b (dominates p q)
-    go true same m = rw (one-add (axes-within p q), eqb-suc-suc (axes-within p q) (length p)) same
-    go false same m = ne_eqb (0 + axes-within p q) (suc (length p)) (λ k. omega arith)
+    go : (b : Bool) → eqb (axes_within p q) (length p) ≡ dominates p q → axes_within p q ≤ length p → eqb (holds b + axes_within p q) (suc (length p)) ≡ both b (dominates p q)
+    go true same m = rw (one-add (axes_within p q), eqb-suc-suc (axes_within p q) (length p)) same
+    go false same m = ne_eqb (0 + axes_within p q) (suc (length p)) (λ k. omega arith)
 
-pub axes-all : {n axes : ℕ} (p q : List ℕ) → length p ≡ n → length q ≡ n → axes ≡ axes-within p q → eqb axes n ≡ dominates p q
-axes-all {n} {axes} p q e f g = rw (g, ← e) (axes-dominate p q (omega arith))
+pub axes_all : {n axes : ℕ} (p q : List ℕ) → length p ≡ n → length q ≡ n → axes ≡ axes_within p q → eqb axes n ≡ dominates p q
+axes_all {n} {axes} p q e f g = rw (g, ← e) (axes_dominate p q (omega arith))
 
 -- The edge product: the product so far times the edge product on the axes left.
 pub record Multiplied (n : ℕ) (r p : List ℕ) (product axis : ℕ) : Type 0 where
@@ -148,22 +148,22 @@ pub record Multiplied (n : ℕ) (r p : List ℕ) (product axis : ℕ) : Type 0 w
   pub so_far : product * edges (drop axis r) (drop axis p) ≡ edges r p
   pub bound : product ≤ 1048576 ^ axis
 
-pub multiplied-none : (n : ℕ) (r p : List ℕ) → length r ≡ n → length p ≡ n → Multiplied n r p 1 0
-multiplied-none n r p e f =
+pub multiplied_none : (n : ℕ) (r p : List ℕ) → length r ≡ n → length p ≡ n → Multiplied n r p 1 0
+multiplied_none n r p e f =
     record {
       along = record { left = e; right = f; within = omega arith };
       so_far = one-mul (edges r p);
       bound = omega arith;
     }
 
-pub multiplied-more : {n : ℕ} {r p : List ℕ} {product axis edge : ℕ} → Multiplied n r p product axis → axis < n → edge ≡ get_or r axis 0 - get_or p axis 0 → get_or r axis 0 ≤ 1048576 → Multiplied n r p (product * edge) (axis + 1)
+pub multiplied_more : {n : ℕ} {r p : List ℕ} {product axis edge : ℕ} → Multiplied n r p product axis → axis < n → edge ≡ get_or r axis 0 - get_or p axis 0 → get_or r axis 0 ≤ 1048576 → Multiplied n r p (product * edge) (axis + 1)
 unfolding edges
-multiplied-more {n} {r} {p} {product} {axis} {edge} h l e b =
+multiplied_more {n} {r} {p} {product} {axis} {edge} h l e b =
     let m : axis < length r = omega arith in
     let o : axis < length p = omega arith in
     let small : edge ≤ 1048576 = omega arith in
     record {
-      along = along-more h.along l;
+      along = along_more h.along l;
       so_far =
           rw (mul_assoc product edge (edges (drop (axis + 1) r) (drop (axis + 1) p)), e, add-one axis)
           (rw (drop-cons r axis 0 m, drop-cons p axis 0 o) at h.so_far);
@@ -171,8 +171,8 @@ multiplied-more {n} {r} {p} {product} {axis} {edge} h l e b =
     }
 
 -- On three axes the product fits a word.
-pub multiplied-fits : {r p : List ℕ} {product axis edge : ℕ} → Multiplied 3 r p product axis → axis < 3 → edge ≡ get_or r axis 0 - get_or p axis 0 → get_or r axis 0 ≤ 1048576 → product * edge < 2 ^ 64
-multiplied-fits {r} {p} {product} {axis} {edge} h l e b =
+pub multiplied_fits : {r p : List ℕ} {product axis edge : ℕ} → Multiplied 3 r p product axis → axis < 3 → edge ≡ get_or r axis 0 - get_or p axis 0 → get_or r axis 0 ≤ 1048576 → product * edge < 2 ^ 64
+multiplied_fits {r} {p} {product} {axis} {edge} h l e b =
     let small : edge ≤ 1048576 = omega arith in
     let two : axis ≤ 2 = omega arith in
     let base : 0 < 1048576 = omega arith in
@@ -180,8 +180,8 @@ multiplied-fits {r} {p} {product} {axis} {edge} h l e b =
     let most : product * edge ≤ 1048576 ^ axis * 1048576 = mul-le-mul h.bound small in
     omega arith
 
-pub multiplied-end : {n : ℕ} {r p : List ℕ} {product axis : ℕ} → Multiplied n r p product axis → n ≤ axis → product ≡ edges r p
+pub multiplied_end : {n : ℕ} {r p : List ℕ} {product axis : ℕ} → Multiplied n r p product axis → n ≤ axis → product ≡ edges r p
 unfolding edges
-multiplied-end {n} {r} {p} {product} {axis} h l =
+multiplied_end {n} {r} {p} {product} {axis} h l =
     let last : axis ≡ length r = omega arith in
     sym (mul-one product) ∙ (rw (last, drop-length r) at h.so_far)

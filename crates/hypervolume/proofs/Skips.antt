@@ -12,57 +12,57 @@ use borrow.Author.Tests.{leb-true, leb-false, le-leb}
 use Rattle.slices.specs.Choices.{both}
 use Rattle.hypervolume.specs.Cells.{dominates, join}
 use Rattle.hypervolume.specs.Counts.{cover, total, contribution}
-use Rattle.slices.proofs.Choices.{both_true, both-intro}
-use Rattle.hypervolume.proofs.Dominance.{dominates-join, cover-append}
-use Rattle.hypervolume.proofs.Counting.{count_none, Twice, total_twice, contribution-twice, twice-not}
+use Rattle.slices.proofs.Choices.{both_true, both_intro}
+use Rattle.hypervolume.proofs.Dominance.{dominates_join, cover_append}
+use Rattle.hypervolume.proofs.Counting.{count_none, Twice, total_twice, contribution_twice, twice_not}
 
 -- Each of the points is one that law 6 leaves out.
 unfoldable pub Spare : List (List ℕ) → List (List ℕ) → Type 0
 Spare trials skipped = (j : ℕ) → j < length skipped → Twice trials (get_or skipped j [])
 
-spare-rest : (trials : List (List ℕ)) (s : List ℕ) (skipped : List (List ℕ)) → Spare trials (s ∷ skipped) → Spare trials skipped
+spare_rest : (trials : List (List ℕ)) (s : List ℕ) (skipped : List (List ℕ)) → Spare trials (s ∷ skipped) → Spare trials skipped
 unfolding Spare
-spare-rest trials s skipped h j l = h (suc j) (omega arith)
+spare_rest trials s skipped h j l = h (suc j) (omega arith)
 
-spare-first : (trials : List (List ℕ)) (s : List ℕ) (skipped : List (List ℕ)) → Spare trials (s ∷ skipped) → Twice (skipped ++ trials) s
+spare_first : (trials : List (List ℕ)) (s : List ℕ) (skipped : List (List ℕ)) → Spare trials (s ∷ skipped) → Twice (skipped ++ trials) s
 unfolding Spare Twice
-spare-first trials s skipped h c d =
+spare_first trials s skipped h c d =
     let two : 2 ≤ cover trials c = h 0 (omega arith) c d in
-    omega (arith, cover-append skipped trials c)
+    omega (arith, cover_append skipped trials c)
 
-pub total-skips : (r : List ℕ) (trials skipped : List (List ℕ)) → Spare trials skipped → total r (skipped ++ trials) ≡ total r trials
-total-skips r trials [] h = refl
-total-skips r trials (s ∷ skipped) h =
-    total_twice r (skipped ++ trials) s (spare-first trials s skipped h)
-    ∙ total-skips r trials skipped (spare-rest trials s skipped h)
+pub total_skips : (r : List ℕ) (trials skipped : List (List ℕ)) → Spare trials skipped → total r (skipped ++ trials) ≡ total r trials
+total_skips r trials [] h = refl
+total_skips r trials (s ∷ skipped) h =
+    total_twice r (skipped ++ trials) s (spare_first trials s skipped h)
+    ∙ total_skips r trials skipped (spare_rest trials s skipped h)
 
-pub contribution-skips : (r : List ℕ) (trials skipped : List (List ℕ)) (t : List ℕ) → Spare trials skipped → contribution r (skipped ++ trials) t ≡ contribution r trials t
-contribution-skips r trials [] t h = refl
-contribution-skips r trials (s ∷ skipped) t h =
-    contribution-twice r (skipped ++ trials) s t (spare-first trials s skipped h)
-    ∙ contribution-skips r trials skipped t (spare-rest trials s skipped h)
+pub contribution_skips : (r : List ℕ) (trials skipped : List (List ℕ)) (t : List ℕ) → Spare trials skipped → contribution r (skipped ++ trials) t ≡ contribution r trials t
+contribution_skips r trials [] t h = refl
+contribution_skips r trials (s ∷ skipped) t h =
+    contribution_twice r (skipped ++ trials) s t (spare_first trials s skipped h)
+    ∙ contribution_skips r trials skipped t (spare_rest trials s skipped h)
 
 -- A point that is left out contributes nothing.
-pub contribution-spare : (r : List ℕ) (trials : List (List ℕ)) (s : List ℕ) → Twice trials s → contribution r trials s ≡ 0
+pub contribution_spare : (r : List ℕ) (trials : List (List ℕ)) (s : List ℕ) → Twice trials s → contribution r trials s ≡ 0
 unfolding contribution Twice
-contribution-spare r trials s h = count_none r _ (λ c. twice-not 1 (omega arith) (dominates s c) (cover trials c) (h c))
+contribution_spare r trials s h = count_none r _ (λ c. twice_not 1 (omega arith) (dominates s c) (cover trials c) (h c))
 
 -- Dominance of one point, seen as a cell, carries over to whatever that point dominates.
-pub dominates-self : (p : List ℕ) → dominates p p ≡ true
+pub dominates_self : (p : List ℕ) → dominates p p ≡ true
 unfolding dominates
-dominates-self [] = refl
-dominates-self (x ∷ p) = both-intro (leb x x) (dominates p p) (le-leb x x (omega arith)) (dominates-self p)
+dominates_self [] = refl
+dominates_self (x ∷ p) = both_intro (leb x x) (dominates p p) (le-leb x x (omega arith)) (dominates_self p)
 
-pub dominates-through : (p s c : List ℕ) → length p ≤ length s → dominates p s ≡ true → dominates s c ≡ true → dominates p c ≡ true
+pub dominates_through : (p s c : List ℕ) → length p ≤ length s → dominates p s ≡ true → dominates s c ≡ true → dominates p c ≡ true
 unfolding dominates
-dominates-through [] s c l a d = refl
-dominates-through (x ∷ p) [] c l a d = absurd (let no : ⊥ = omega arith in no)
-dominates-through (x ∷ p) (y ∷ s) [] l a d = refl
-dominates-through (x ∷ p) (y ∷ s) (i ∷ c) l a d =
+dominates_through [] s c l a d = refl
+dominates_through (x ∷ p) [] c l a d = absurd (let no : ⊥ = omega arith in no)
+dominates_through (x ∷ p) (y ∷ s) [] l a d = refl
+dominates_through (x ∷ p) (y ∷ s) (i ∷ c) l a d =
     let a' = both_true (leb x y) (dominates p s) a in
     let d' = both_true (leb y i) (dominates s c) d in
-    both-intro (leb x i) (dominates p c) (le-leb x i (le_trans (leb-true x y a'.0) (leb-true y i d'.0)))
-    (dominates-through p s c (omega arith) a'.1 d'.1)
+    both_intro (leb x i) (dominates p c) (le-leb x i (le_trans (leb-true x y a'.0) (leb-true y i d'.0)))
+    (dominates_through p s c (omega arith) a'.1 d'.1)
 
 -- A point that does not dominate a cell is above it on some axis.
 pub record Beyond (p c : List ℕ) : Type 0 where
@@ -83,35 +83,35 @@ beyond (x ∷ p) (i ∷ c) e = go (leb x i) refl e (beyond p c)
     go false q f later = record { axis = 0; within = omega arith; above = leb-false x i q }
 
 -- u moved along one axis, no further than t is on it, dominates wherever u and t do.
-pub moved-dominates : (u t c : List ℕ) (a n : ℕ) → dominates u c ≡ true → dominates t c ≡ true → n ≤ get_or t a 0 → dominates (set u a n) c ≡ true
+pub moved_dominates : (u t c : List ℕ) (a n : ℕ) → dominates u c ≡ true → dominates t c ≡ true → n ≤ get_or t a 0 → dominates (set u a n) c ≡ true
 unfolding dominates
-moved-dominates [] t c a n du dt l = refl
-moved-dominates (x ∷ u) t [] zero n du dt l = refl
-moved-dominates (x ∷ u) t [] (suc a) n du dt l = refl
-moved-dominates (x ∷ u) [] (i ∷ c) zero n du dt l =
-    both-intro (leb n i) (dominates u c) (le-leb n i (omega arith)) (both_true (leb x i) (dominates u c) du).1
-moved-dominates (x ∷ u) (y ∷ t) (i ∷ c) zero n du dt l =
+moved_dominates [] t c a n du dt l = refl
+moved_dominates (x ∷ u) t [] zero n du dt l = refl
+moved_dominates (x ∷ u) t [] (suc a) n du dt l = refl
+moved_dominates (x ∷ u) [] (i ∷ c) zero n du dt l =
+    both_intro (leb n i) (dominates u c) (le-leb n i (omega arith)) (both_true (leb x i) (dominates u c) du).1
+moved_dominates (x ∷ u) (y ∷ t) (i ∷ c) zero n du dt l =
     let low : y ≤ i = leb-true y i (both_true (leb y i) (dominates t c) dt).0 in
-    both-intro (leb n i) (dominates u c) (le-leb n i (omega arith)) (both_true (leb x i) (dominates u c) du).1
-moved-dominates (x ∷ u) [] (i ∷ c) (suc a) n du dt l =
+    both_intro (leb n i) (dominates u c) (le-leb n i (omega arith)) (both_true (leb x i) (dominates u c) du).1
+moved_dominates (x ∷ u) [] (i ∷ c) (suc a) n du dt l =
     let d = both_true (leb x i) (dominates u c) du in
-    both-intro (leb x i) (dominates (set u a n) c) d.0 (moved-dominates u [] c a n d.1 refl l)
-moved-dominates (x ∷ u) (y ∷ t) (i ∷ c) (suc a) n du dt l =
+    both_intro (leb x i) (dominates (set u a n) c) d.0 (moved_dominates u [] c a n d.1 refl l)
+moved_dominates (x ∷ u) (y ∷ t) (i ∷ c) (suc a) n du dt l =
     let d = both_true (leb x i) (dominates u c) du in
-    both-intro (leb x i) (dominates (set u a n) c) d.0
-    (moved-dominates u t c a n d.1 (both_true (leb y i) (dominates t c) dt).1 l)
+    both_intro (leb x i) (dominates (set u a n) c) d.0
+    (moved_dominates u t c a n d.1 (both_true (leb y i) (dominates t c) dt).1 l)
 
 -- The corner of u and q dominates where u does and where a point does that q is at most.
-corner-dominates : (u q s c : List ℕ) → length q ≤ length s → dominates u c ≡ true → dominates q s ≡ true → dominates s c ≡ true → dominates (join u q) c ≡ true
-corner-dominates u q s c l du dq ds =
-    rw (dominates-join u q c) (both-intro (dominates u c) (dominates q c) du (dominates-through q s c l dq ds))
+corner_dominates : (u q s c : List ℕ) → length q ≤ length s → dominates u c ≡ true → dominates q s ≡ true → dominates s c ≡ true → dominates (join u q) c ≡ true
+corner_dominates u q s c l du dq ds =
+    rw (dominates_join u q c) (both_intro (dominates u c) (dominates q c) du (dominates_through q s c l dq ds))
 
 -- Let t be past the limit on the axis a. Then whatever is at most u, moved along a to the limit, has a corner with u
 -- that is within the limit and that dominates wherever u and t do.
-pub moved-corner : (u limit t q c : List ℕ) (a : ℕ) → length q ≤ length u → dominates u limit ≡ true → get_or limit a 0 ≤ get_or t a 0 → dominates u c ≡ true → dominates t c ≡ true → dominates q (set u a (get_or limit a 0)) ≡ true → (dominates (join u q) limit ≡ true) × (dominates (join u q) c ≡ true)
-moved-corner u limit t q c a l du e dc dt dq =
+pub moved_corner : (u limit t q c : List ℕ) (a : ℕ) → length q ≤ length u → dominates u limit ≡ true → get_or limit a 0 ≤ get_or t a 0 → dominates u c ≡ true → dominates t c ≡ true → dominates q (set u a (get_or limit a 0)) ≡ true → (dominates (join u q) limit ≡ true) × (dominates (join u q) c ≡ true)
+moved_corner u limit t q c a l du e dc dt dq =
     let n : ℕ = get_or limit a 0 in
     let long : length q ≤ length (set u a n) = omega (arith, length-set u a n) in (
-      corner-dominates u q (set u a n) limit long du dq (moved-dominates u limit limit a n du (dominates-self limit) (omega arith)),
-      corner-dominates u q (set u a n) c long dc dq (moved-dominates u t c a n dc dt e),
+      corner_dominates u q (set u a n) limit long du dq (moved_dominates u limit limit a n du (dominates_self limit) (omega arith)),
+      corner_dominates u q (set u a n) c long dc dq (moved_dominates u t c a n dc dt e),
     )

@@ -22,8 +22,8 @@ compared a b = go (leb a b) refl
     go false e = above (leb-false a b e)
 
 -- Not at most: the other is less.
-pub not-leb : (m n : ℕ) → not (leb m n) ≡ ltb n m
-not-leb m n = go (leb m n) (compared m n)
+pub not_leb : (m n : ℕ) → not (leb m n) ≡ ltb n m
+not_leb m n = go (leb m n) (compared m n)
   where
     go : (x : Bool) → Compared m n x → not x ≡ ltb n m
     go true (below l) = sym (le-ltb n m l)
@@ -49,30 +49,30 @@ equated a b = go (eqb a b) refl
     go true e = same (eqb-true a b e)
     go false e = differs (eqb-false a b e)
 
-pub holds-le-one : (t : Bool) → holds t ≤ 1
+pub holds_le_one : (t : Bool) → holds t ≤ 1
 unfolding holds
-holds-le-one true = omega arith
-holds-le-one false = omega arith
+holds_le_one true = omega arith
+holds_le_one false = omega arith
 
-pub holds-small : (t : Bool) {n : ℕ} → n ≡ holds t → n ≤ 1
-holds-small t e = omega (arith, holds-le-one t)
+pub holds_small : (t : Bool) {n : ℕ} → n ≡ holds t → n ≤ 1
+holds_small t e = omega (arith, holds_le_one t)
 
 -- a test that implies another counts at most as often
-pub holds-implied : (s t : Bool) → (s ≡ true → t ≡ true) → holds s ≤ holds t
+pub holds_implied : (s t : Bool) → (s ≡ true → t ≡ true) → holds s ≤ holds t
 unfolding holds
-holds-implied true t h = rw (h refl) (omega arith)
-holds-implied false t h = omega arith
+holds_implied true t h = rw (h refl) (omega arith)
+holds_implied false t h = omega arith
 
-pub both-le-right : (s t : Bool) → holds (both s t) ≤ holds t
+pub both_le_right : (s t : Bool) → holds (both s t) ≤ holds t
 unfolding both holds
-both-le-right true t = omega arith
-both-le-right false true = omega arith
-both-le-right false false = omega arith
+both_le_right true t = omega arith
+both_le_right false true = omega arith
+both_le_right false false = omega arith
 
 -- Two bounds on a coordinate are a bound by the larger.
-pub leb-max : (x y i : ℕ) → leb (max x y) i ≡ both (leb x i) (leb y i)
+pub leb_max : (x y i : ℕ) → leb (max x y) i ≡ both (leb x i) (leb y i)
 unfolding both
-leb-max x y i = go (leb x i) (leb y i) (compared x i) (compared y i)
+leb_max x y i = go (leb x i) (leb y i) (compared x i) (compared y i)
   where
     go : (s t : Bool) → Compared x i s → Compared y i t → leb (max x y) i ≡ both s t
     go true true (below p) (below q) = le-leb (max x y) i (max-le p q)

@@ -2,7 +2,7 @@
 use Rattle.std.specs.Prelude.{ℕ, ◌+◌, List, ◌∷◌, [], leb}
 use Rattle.hypervolume.specs.Cells.{holds}
 
-unfoldable pub axes-within : List ℕ → List ℕ → ℕ
-axes-within [] q = 0
-axes-within (x ∷ p) [] = 0
-axes-within (x ∷ p) (y ∷ q) = holds (leb x y) + axes-within p q
+unfoldable pub axes_within : List ℕ → List ℕ → ℕ
+axes_within [] q = 0
+axes_within (x ∷ p) [] = 0
+axes_within (x ∷ p) (y ∷ q) = holds (leb x y) + axes_within p q

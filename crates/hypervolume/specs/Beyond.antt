@@ -14,12 +14,12 @@ pub record Beyond (r p : List ℕ) : Type 0 where
 -- The point counts for nothing, whatever the trials are.
 pub record CountsForNothing (r p : List ℕ) : Type 0 where
   pub no_cell : count r (dominates p) ≡ 0
-  pub no-gain : (trials : List (List ℕ)) → gain r trials p ≡ 0
-  pub no-contribution : (trials : List (List ℕ)) → contribution r trials p ≡ 0
-  pub no-joint : (trials : List (List ℕ)) (t : List ℕ) → (joint r trials p t ≡ 0) × (joint r trials t p ≡ 0)
+  pub no_gain : (trials : List (List ℕ)) → gain r trials p ≡ 0
+  pub no_contribution : (trials : List (List ℕ)) → contribution r trials p ≡ 0
+  pub no_joint : (trials : List (List ℕ)) (t : List ℕ) → (joint r trials p t ≡ 0) × (joint r trials t p ≡ 0)
   -- one such trial more: the total and the others' contributions stay
   pub same_total : (trials : List (List ℕ)) → total r (p ∷ trials) ≡ total r trials
-  pub same-contribution : (trials : List (List ℕ)) (t : List ℕ) → Memᴰ t trials
+  pub same_contribution : (trials : List (List ℕ)) (t : List ℕ) → Memᴰ t trials
       → contribution r (p ∷ trials) t ≡ contribution r trials t
 
 abbrev pub BeyondCountsForNothing : Type 0

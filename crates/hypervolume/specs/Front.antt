@@ -6,14 +6,14 @@ use Rattle.slices.specs.Choices.{both, either}
 use Rattle.hypervolume.specs.Cells.{holds, dominates}
 
 -- "Smaller on at least one" axis.
-unfoldable pub smaller-somewhere : List ℕ → List ℕ → Bool
-smaller-somewhere [] q = false
-smaller-somewhere (x ∷ p) [] = false
-smaller-somewhere (x ∷ p) (y ∷ q) = either (ltb x y) (smaller-somewhere p q)
+unfoldable pub smaller_somewhere : List ℕ → List ℕ → Bool
+smaller_somewhere [] q = false
+smaller_somewhere (x ∷ p) [] = false
+smaller_somewhere (x ∷ p) (y ∷ q) = either (ltb x y) (smaller_somewhere p q)
 
 -- "At most equal on all axes and smaller on at least one": p beats q. (No trial beats itself or its equal.)
 unfoldable pub beats : List ℕ → List ℕ → Bool
-beats p q = both (dominates p q) (smaller-somewhere p q)
+beats p q = both (dominates p q) (smaller_somewhere p q)
 
 -- Whether one of the trials beats q.
 unfoldable pub beaten : List (List ℕ) → List ℕ → Bool

@@ -2,7 +2,7 @@
 // slice of their coordinates, three to a point.
 ghost use Rattle.std.specs.Prelude.{◌≡◌, ◌∷◌, [], ℕ, ◌-◌, ◌≤◌, ◌<◌, ◌*◌, max, min, leb, length, get_or, set};
 ghost use Rattle.hypervolume.specs.Cells.{holds, dominates, join, edges};
-ghost use Rattle.hypervolume.specs.Axes.{axes-within};
+ghost use Rattle.hypervolume.specs.Axes.{axes_within};
 
 pub mod number;
 
@@ -83,7 +83,7 @@ impl Point {
 
     // On how many axes this point is at most the other. A sum of tests takes no branch, where a chain of them would.
     pub fn axes_within(self, other: Point) -> u32
-        ensures { result ≡ axes-within self.at other.at }
+        ensures { result ≡ axes_within self.at other.at }
     {
         let mut axes: u32 = 0;
         for axis in 0..3usize {

@@ -5,10 +5,10 @@ ghost use Rattle.std.specs.Prelude.{◌≡◌, ℕ};
 ghost use Rattle.slices.specs.Choices.{pick};
 ghost use Rattle.hypervolume.specs.Sorted.{Small};
 ghost use Rattle.words.specs.Layout.{read};
-ghost use Rattle.words.specs.Format.{guard, archive-rows};
-ghost use Rattle.words.specs.Places.{as_row, as-trial};
-ghost use Rattle.calls.specs.Calls.{admission-rows, insert-overruns};
-ghost use Rattle.calls.specs.Lent.{insert, trial-of};
+ghost use Rattle.words.specs.Format.{guard, archive_rows};
+ghost use Rattle.words.specs.Places.{as_row, as_trial};
+ghost use Rattle.calls.specs.Calls.{admission_rows, insert_overruns};
+ghost use Rattle.calls.specs.Lent.{insert, trial_of};
 ghost use Rattle.ask.specs.RecordCounts.{Room};
 ghost use Rattle.insertion.specs.Inserting.{InsertAmounts, InsertReady, entered, Enters};
 
@@ -21,8 +21,8 @@ use words::{
 
 // Rows 5 to 8.
 fn admission(w: &[u64], row: Row) -> u64
-    requires { archive-rows w.now 0 ≡ 0 }
-    ensures { result ≡ admission-rows (read w.now) (as_row row).trial 0 }
+    requires { archive_rows w.now 0 ≡ 0 }
+    ensures { result ≡ admission_rows (read w.now) (as_row row).trial 0 }
 {
     if !number_allowed(row.number) {
         return 5;
@@ -51,8 +51,8 @@ fn judge(
     line: &mut [u64],
     counts: &mut [u64],
 ) -> Moved
-    requires { (archive-rows w.now 0 ≡ 0) × Small p.at × Room points.old corners.old places.old line.old counts.old }
-    ensures { (number : ℕ) → InsertAmounts w.now (as-trial number p.at) places.new counts.new result }
+    requires { (archive_rows w.now 0 ≡ 0) × Small p.at × Room points.old corners.old places.old line.old counts.old }
+    ensures { (number : ℕ) → InsertAmounts w.now (as_trial number p.at) places.new counts.new result }
 {
     let n = w[0] as usize;
     let counted = count_joints_in(w, n, p, points, corners, places, line, counts);
@@ -74,8 +74,8 @@ fn judge(
 
 // Writes the others' contributions, the new record, the count and the total. The front stays as it was.
 fn store(w: &mut [u64], number: u64, p: Point, gain: u64, places: &[u16], counts: &[u64])
-    requires { InsertReady w.old (as-trial number p.at) gain places.now counts.now }
-    ensures { w.new ≡ entered w.old (as-trial number p.at) }
+    requires { InsertReady w.old (as_trial number p.at) gain places.now counts.now }
+    ensures { w.new ≡ entered w.old (as_trial number p.at) }
 {
     let n = w[0] as usize;
     let new = Record {
@@ -102,9 +102,9 @@ fn put_in(
     line: &mut [u64],
     counts: &mut [u64],
 ) -> u64
-    requires { (archive-rows w.old 0 ≡ 0) × (admission-rows (read w.old) (as-trial number p.at) 0 ≡ 0) × Room points.old corners.old places.old line.old counts.old }
-    ensures answer { result ≡ guard (insert-overruns (read w.old) (as-trial number p.at)) 13 0 }
-    ensures words { w.new ≡ pick (insert-overruns (read w.old) (as-trial number p.at)) w.old (entered w.old (as-trial number p.at)) }
+    requires { (archive_rows w.old 0 ≡ 0) × (admission_rows (read w.old) (as_trial number p.at) 0 ≡ 0) × Room points.old corners.old places.old line.old counts.old }
+    ensures answer { result ≡ guard (insert_overruns (read w.old) (as_trial number p.at)) 13 0 }
+    ensures words { w.new ≡ pick (insert_overruns (read w.old) (as_trial number p.at)) w.old (entered w.old (as_trial number p.at)) }
 {
     let moved = judge(w, p, points, corners, places, line, counts);
     if !moved.fits {
@@ -126,7 +126,7 @@ pub fn enter(
     line: &mut [u64],
     counts: &mut [u64],
 ) -> u64
-    requires { (archive-rows w.old 0 ≡ 0) × Room points.old corners.old places.old line.old counts.old }
+    requires { (archive_rows w.old 0 ≡ 0) × Room points.old corners.old places.old line.old counts.old }
     ensures { Enters w.old (as_row row).trial result w.new }
 {
     let turned_away = admission(w, row);
@@ -139,7 +139,7 @@ pub fn enter(
 
 // The same in arrays of its own, which are gone when the front is counted.
 fn enter_alone(w: &mut [u64], row: Row) -> u64
-    requires { archive-rows w.old 0 ≡ 0 }
+    requires { archive_rows w.old 0 ≡ 0 }
     ensures { Enters w.old (as_row row).trial result w.new }
 {
     let mut points = [[0u32, 0, 0]; 512];
@@ -160,7 +160,7 @@ fn enter_alone(w: &mut [u64], row: Row) -> u64
 
 // Insert (number, point). Answers 0 when done.
 pub fn insert(w: &mut [u64], number: u64, x: u64, y: u64, z: u64) -> u64
-    ensures { (result ≡ (insert w.old (trial-of number x y z)).refusal) × (w.new ≡ (insert w.old (trial-of number x y z)).words) }
+    ensures { (result ≡ (insert w.old (trial_of number x y z)).refusal) × (w.new ≡ (insert w.old (trial_of number x y z)).words) }
 {
     let refused = refusal(w);
     if refused != 0 {

@@ -1,14 +1,14 @@
 // Start: an empty archive in lent words.
 ghost use Rattle.std.specs.Prelude.{◌≡◌};
-ghost use Rattle.words.specs.Places.{as-shape};
-ghost use Rattle.calls.specs.Lent.{start, start-rows, shape_of};
+ghost use Rattle.words.specs.Places.{as_shape};
+ghost use Rattle.calls.specs.Lent.{start, start_rows, shape_of};
 
 use slices::clear;
 use words::{Shape, put_header, shape_allowed};
 
 // Rows 4 and 1, for a slice of `room` words.
 pub fn start_row(s: Shape, room: usize) -> u64
-    ensures { result ≡ start-rows room (as-shape s) }
+    ensures { result ≡ start_rows room (as_shape s) }
 {
     if !shape_allowed(s) {
         return 4;

@@ -10,19 +10,19 @@ use lib.Dec.{leb, eqb}
 use lib.ListN.{length, get_or}
 use borrow.Author.Tests.{eqb-false}
 use Rattle.slices.specs.Choices.{either, pick}
-use Rattle.slices.proofs.Choices.{either-false}
+use Rattle.slices.proofs.Choices.{either_false}
 use Rattle.hypervolume.specs.Cells.{holds, sum, count, box}
 use Rattle.hypervolume.specs.Counts.{cover, total}
-use Rattle.hypervolume.proofs.Sums.{sum-none, sum-steady, cells-none}
-use Rattle.hypervolume.proofs.Counting.{count-le-box}
-use Rattle.hypervolume.proofs.Last.{dominates-last, dominates-before, cells-last, cells-alike}
-use Rattle.hypervolume.proofs.Tests.{Compared, compared, below, above, Equated, equated, same, holds-le-one}
-use Rattle.layers.specs.Layers.{begins, those, levels, area-at, next_level, Layer, layers-at, layers, cells_of, LayersAddUp}
+use Rattle.hypervolume.proofs.Sums.{sum_none, sum_steady, cells_none}
+use Rattle.hypervolume.proofs.Counting.{count_le_box}
+use Rattle.hypervolume.proofs.Last.{dominates_last, dominates_before, cells_last, cells_alike}
+use Rattle.hypervolume.proofs.Tests.{Compared, compared, below, above, Equated, equated, same, holds_le_one}
+use Rattle.layers.specs.Layers.{begins, those, levels, area_at, next_level, Layer, layers_at, layers, cells_of, LayersAddUp}
 
 -- The total, layer by layer.
-total-last : (rs : List ℕ) (r : ℕ) (points : List (List ℕ)) → total (rs ++ (r ∷ [])) points ≡ sum r (area-at rs points)
-unfolding total count area-at
-total-last rs r points = cells-last rs r (λ c. holds (leb 1 (cover points c)))
+total_last : (rs : List ℕ) (r : ℕ) (points : List (List ℕ)) → total (rs ++ (r ∷ [])) points ≡ sum r (area_at rs points)
+unfolding total count area_at
+total_last rs r points = cells_last rs r (λ c. holds (leb 1 (cover points c)))
 
 -- ---- between two levels nothing changes
 
@@ -40,35 +40,35 @@ alike x a b l h = go (leb x a) (leb x b) (compared x a) (compared x b)
     go true false (below p) (above q) = absurd (let no' : ⊥ = omega arith in no')
     go false true (above p) (below q) = absurd (eqb-false x x (h x p q) refl)
 
-cover-alike : (points : List (List ℕ)) (c : List ℕ) (a b : ℕ) → a ≤ b → ((k : ℕ) → a < k → k ≤ b → begins (length c) points k ≡ false) → cover points (c ++ (b ∷ [])) ≡ cover points (c ++ (a ∷ []))
+cover_alike : (points : List (List ℕ)) (c : List ℕ) (a b : ℕ) → a ≤ b → ((k : ℕ) → a < k → k ≤ b → begins (length c) points k ≡ false) → cover points (c ++ (b ∷ [])) ≡ cover points (c ++ (a ∷ []))
 unfolding cover begins
-cover-alike [] c a b l h = refl
-cover-alike (p ∷ points) c a b l h =
-    rw (dominates-last p c a, dominates-last p c b, alike (get_or p (length c) 0) a b l (λ k m n. (either-false (eqb (get_or p (length c) 0) k) (begins (length c) points k) (h k m n)).0), cover-alike points c a b l (λ k m n. (either-false (eqb (get_or p (length c) 0) k) (begins (length c) points k) (h k m n)).1))
+cover_alike [] c a b l h = refl
+cover_alike (p ∷ points) c a b l h =
+    rw (dominates_last p c a, dominates_last p c b, alike (get_or p (length c) 0) a b l (λ k m n. (either_false (eqb (get_or p (length c) 0) k) (begins (length c) points k) (h k m n)).0), cover_alike points c a b l (λ k m n. (either_false (eqb (get_or p (length c) 0) k) (begins (length c) points k) (h k m n)).1))
 
-area-steady : (rs : List ℕ) (points : List (List ℕ)) (a b : ℕ) → a ≤ b → ((k : ℕ) → a < k → k ≤ b → begins (length rs) points k ≡ false) → area-at rs points b ≡ area-at rs points a
-unfolding area-at count
-area-steady rs points a b l h =
-    cells-alike rs (λ c. holds (leb 1 (cover points (c ++ (b ∷ []))))) (λ c. holds (leb 1 (cover points (c ++ (a ∷ [])))))
-    (λ c e. ap (λ n. holds (leb 1 n)) (cover-alike points c a b l (λ k m n. rw e (h k m n))))
+area_steady : (rs : List ℕ) (points : List (List ℕ)) (a b : ℕ) → a ≤ b → ((k : ℕ) → a < k → k ≤ b → begins (length rs) points k ≡ false) → area_at rs points b ≡ area_at rs points a
+unfolding area_at count
+area_steady rs points a b l h =
+    cells_alike rs (λ c. holds (leb 1 (cover points (c ++ (b ∷ []))))) (λ c. holds (leb 1 (cover points (c ++ (a ∷ [])))))
+    (λ c e. ap (λ n. holds (leb 1 n)) (cover_alike points c a b l (λ k m n. rw e (h k m n))))
 
 -- Below the first level there is nothing.
 uncovered : (points : List (List ℕ)) (c : List ℕ) (z : ℕ) → ((k : ℕ) → k ≤ z → begins (length c) points k ≡ false) → cover points (c ++ (z ∷ [])) ≡ 0
 unfolding cover begins holds
 uncovered [] c z h = refl
 uncovered (p ∷ points) c z h =
-    rw (dominates-before (length c) c z refl p (past (compared (get_or p (length c) 0) z)), uncovered points c z (λ k m. (either-false (eqb (get_or p (length c) 0) k) (begins (length c) points k) (h k m)).1))
+    rw (dominates_before (length c) c z refl p (past (compared (get_or p (length c) 0) z)), uncovered points c z (λ k m. (either_false (eqb (get_or p (length c) 0) k) (begins (length c) points k) (h k m)).1))
   where
     past : {t : Bool} → Compared (get_or p (length c) 0) z t → z < get_or p (length c) 0
     past (above l) = l
-    past (below l) = absurd (eqb-false (get_or p (length c) 0) (get_or p (length c) 0) (either-false (eqb (get_or p (length c) 0) (get_or p (length c) 0)) (begins (length c) points (get_or p (length c) 0)) (h (get_or p (length c) 0) l)).0 refl)
+    past (below l) = absurd (eqb-false (get_or p (length c) 0) (get_or p (length c) 0) (either_false (eqb (get_or p (length c) 0) (get_or p (length c) 0)) (begins (length c) points (get_or p (length c) 0)) (h (get_or p (length c) 0) l)).0 refl)
 
-area-none : (rs : List ℕ) (points : List (List ℕ)) (z : ℕ) → ((k : ℕ) → k ≤ z → begins (length rs) points k ≡ false) → area-at rs points z ≡ 0
-unfolding area-at count holds
-area-none rs points z h =
-    cells-alike rs (λ c. holds (leb 1 (cover points (c ++ (z ∷ []))))) (λ c. 0)
+area_none : (rs : List ℕ) (points : List (List ℕ)) (z : ℕ) → ((k : ℕ) → k ≤ z → begins (length rs) points k ≡ false) → area_at rs points z ≡ 0
+unfolding area_at count holds
+area_none rs points z h =
+    cells_alike rs (λ c. holds (leb 1 (cover points (c ++ (z ∷ []))))) (λ c. 0)
     (λ c e. ap (λ n. holds (leb 1 n)) (uncovered points c z (λ k m. rw e (h k m))))
-    ∙ cells-none rs
+    ∙ cells_none rs
 
 -- ---- what is left of the levels
 
@@ -80,8 +80,8 @@ skip test (suc d) a n q =
     (let same' : suc a + d ≡ a + suc d = omega arith in rw same')
 
 -- The numbers below r that pass a test, from a on: from b on, where none does in between.
-pub those-from : (test : ℕ → Bool) (a b r : ℕ) → a ≤ b → b ≤ r → ((k : ℕ) → a ≤ k → k < b → test k ≡ false) → those test a (r - a) ≡ those test b (r - b)
-those-from test a b r l m q =
+pub those_from : (test : ℕ → Bool) (a b r : ℕ) → a ≤ b → b ≤ r → ((k : ℕ) → a ≤ k → k < b → test k ≡ false) → those test a (r - a) ≡ those test b (r - b)
+those_from test a b r l m q =
     let split : r - a ≡ (b - a) + (r - b) = omega arith in
     let end : a + (b - a) ≡ b = omega arith in
     rw split (skip test (b - a) a (r - b) (λ k n o. q k n (omega arith)) ∙ rw end)
@@ -93,66 +93,66 @@ module _ (rs : List ℕ) (r : ℕ) (points : List (List ℕ)) where
   starts = begins (length rs) points
 
   abbrev upto : ℕ → ℕ
-  upto z = sum z (area-at rs points)
+  upto z = sum z (area_at rs points)
 
   -- from the level z, where no point begins behind it and before k
-  one-slice : (z k : ℕ) → z < k → Quiet (length rs) points (suc z) k → upto k ≡ upto z + area-at rs points z * (k - z)
-  one-slice z k l q =
-      sum-steady (area-at rs points) (area-at rs points z) z k (omega arith)
-      (λ i m n. area-steady rs points z i m (λ j o p. q j o (omega arith)))
-      ∙ ap (λ n. sum z (area-at rs points) + n) (mul_comm (k - z) (area-at rs points z))
+  one_slice : (z k : ℕ) → z < k → Quiet (length rs) points (suc z) k → upto k ≡ upto z + area_at rs points z * (k - z)
+  one_slice z k l q =
+      sum_steady (area_at rs points) (area_at rs points z) z k (omega arith)
+      (λ i m n. area_steady rs points z i m (λ j o p. q j o (omega arith)))
+      ∙ ap (λ n. sum z (area_at rs points) + n) (mul_comm (k - z) (area_at rs points z))
 
-  more-quiet : (a k : ℕ) → Quiet (length rs) points a k → starts k ≡ false → Quiet (length rs) points a (suc k)
-  more-quiet a k q e j m n = go (dec_le (suc j) k)
+  more_quiet : (a k : ℕ) → Quiet (length rs) points a k → starts k ≡ false → Quiet (length rs) points a (suc k)
+  more_quiet a k q e j m n = go (dec_le (suc j) k)
     where
       go : Dec (j < k) → begins (length rs) points j ≡ false
       go (yes l) = q j m l
       go (no l) = let last : j ≡ k = omega arith in rw last e
 
-  no-quiet : (k : ℕ) → Quiet (length rs) points (suc k) (suc k)
-  no-quiet k j m n = absurd (let no' : ⊥ = omega arith in no')
+  no_quiet : (k : ℕ) → Quiet (length rs) points (suc k) (suc k)
+  no_quiet k j m n = absurd (let no' : ⊥ = omega arith in no')
 
-  from-level : (z k n : ℕ) → z < k → k + n ≡ r → Quiet (length rs) points (suc z) k → upto r ≡ upto z + cells_of (layers-at rs r points (z ∷ those starts k n))
-  unfolding cells_of layers-at those next_level pick
-  from-level z k zero l e q =
+  from_level : (z k n : ℕ) → z < k → k + n ≡ r → Quiet (length rs) points (suc z) k → upto r ≡ upto z + cells_of (layers_at rs r points (z ∷ those starts k n))
+  unfolding cells_of layers_at those next_level pick
+  from_level z k zero l e q =
       let end : k ≡ r = omega arith in
-      rw (← end) (one-slice z k l q ∙ ap (λ n. sum z (area-at rs points) + n) (sym (add-zero (area-at rs points z * (k - z)))))
-  from-level z k (suc n) l e q = go (starts k) refl (from-level z (suc k) n (omega arith) (omega arith)) (from-level k (suc k) n (omega arith) (omega arith) (no-quiet k))
+      rw (← end) (one_slice z k l q ∙ ap (λ n. sum z (area_at rs points) + n) (sym (add-zero (area_at rs points z * (k - z)))))
+  from_level z k (suc n) l e q = go (starts k) refl (from_level z (suc k) n (omega arith) (omega arith)) (from_level k (suc k) n (omega arith) (omega arith) (no_quiet k))
     where
       go : (b : Bool) → starts k ≡ b
-          → (Quiet (length rs) points (suc z) (suc k) → upto r ≡ upto z + cells_of (layers-at rs r points (z ∷ those starts (suc k) n)))
-          → upto r ≡ upto k + cells_of (layers-at rs r points (k ∷ those starts (suc k) n))
-          → upto r ≡ upto z + cells_of (layers-at rs r points (z ∷ pick b (k ∷ those starts (suc k) n) (those starts (suc k) n)))
-      go false f further level = further (more-quiet (suc z) k q f)
+          → (Quiet (length rs) points (suc z) (suc k) → upto r ≡ upto z + cells_of (layers_at rs r points (z ∷ those starts (suc k) n)))
+          → upto r ≡ upto k + cells_of (layers_at rs r points (k ∷ those starts (suc k) n))
+          → upto r ≡ upto z + cells_of (layers_at rs r points (z ∷ pick b (k ∷ those starts (suc k) n) (those starts (suc k) n)))
+      go false f further level = further (more_quiet (suc z) k q f)
       go true f further level =
           level
-          ∙ ap (λ m. m + cells_of (layers-at rs r points (k ∷ those starts (suc k) n))) (one-slice z k l q)
-          ∙ add_assoc (sum z (area-at rs points)) (area-at rs points z * (k - z)) (cells_of (layers-at rs r points (k ∷ those starts (suc k) n)))
+          ∙ ap (λ m. m + cells_of (layers_at rs r points (k ∷ those starts (suc k) n))) (one_slice z k l q)
+          ∙ add_assoc (sum z (area_at rs points)) (area_at rs points z * (k - z)) (cells_of (layers_at rs r points (k ∷ those starts (suc k) n)))
 
   -- from the ground, where no point begins before k
-  from-ground : (k n : ℕ) → k + n ≡ r → Quiet (length rs) points 0 k → upto r ≡ cells_of (layers-at rs r points (those starts k n))
-  unfolding cells_of layers-at those pick
-  from-ground k zero e q =
-      sum-none r (area-at rs points) (λ i l. area-none rs points i (λ j m. q j zero-le (omega arith)))
-  from-ground k (suc n) e q = go (starts k) refl (from-ground (suc k) n (omega arith)) (from-level k (suc k) n (omega arith) (omega arith) (no-quiet k))
+  from_ground : (k n : ℕ) → k + n ≡ r → Quiet (length rs) points 0 k → upto r ≡ cells_of (layers_at rs r points (those starts k n))
+  unfolding cells_of layers_at those pick
+  from_ground k zero e q =
+      sum_none r (area_at rs points) (λ i l. area_none rs points i (λ j m. q j zero-le (omega arith)))
+  from_ground k (suc n) e q = go (starts k) refl (from_ground (suc k) n (omega arith)) (from_level k (suc k) n (omega arith) (omega arith) (no_quiet k))
     where
       bare : upto k ≡ 0
-      bare = sum-none k (area-at rs points) (λ i l. area-none rs points i (λ j m. q j zero-le (omega arith)))
+      bare = sum_none k (area_at rs points) (λ i l. area_none rs points i (λ j m. q j zero-le (omega arith)))
 
       go : (b : Bool) → starts k ≡ b
-          → (Quiet (length rs) points 0 (suc k) → upto r ≡ cells_of (layers-at rs r points (those starts (suc k) n)))
-          → upto r ≡ upto k + cells_of (layers-at rs r points (k ∷ those starts (suc k) n))
-          → upto r ≡ cells_of (layers-at rs r points (pick b (k ∷ those starts (suc k) n) (those starts (suc k) n)))
-      go false f further level = further (more-quiet 0 k q f)
+          → (Quiet (length rs) points 0 (suc k) → upto r ≡ cells_of (layers_at rs r points (those starts (suc k) n)))
+          → upto r ≡ upto k + cells_of (layers_at rs r points (k ∷ those starts (suc k) n))
+          → upto r ≡ cells_of (layers_at rs r points (pick b (k ∷ those starts (suc k) n) (those starts (suc k) n)))
+      go false f further level = further (more_quiet 0 k q f)
       go true f further level =
           level
-          ∙ ap (λ m. m + cells_of (layers-at rs r points (k ∷ those starts (suc k) n))) bare
-          ∙ zero-add (cells_of (layers-at rs r points (k ∷ those starts (suc k) n)))
+          ∙ ap (λ m. m + cells_of (layers_at rs r points (k ∷ those starts (suc k) n))) bare
+          ∙ zero-add (cells_of (layers_at rs r points (k ∷ those starts (suc k) n)))
 
 whole : (rs : List ℕ) (r : ℕ) (points : List (List ℕ)) → cells_of (layers rs r points) ≡ total (rs ++ (r ∷ [])) points
 unfolding layers levels
 whole rs r points =
-    sym (total-last rs r points ∙ from-ground rs r points 0 r (zero-add r) (λ k l m. absurd (let no' : ⊥ = omega arith in no')))
+    sym (total_last rs r points ∙ from_ground rs r points 0 r (zero-add r) (λ k l m. absurd (let no' : ⊥ = omega arith in no')))
 
 -- ---- no more layers than points
 
@@ -164,7 +164,7 @@ one_more v test a (suc n) =
     go (test a) (eqb v a) (leb a v) (equated v a) (compared a v) (leb (suc a) v) (compared (suc a) v) (one_more v test (suc a) n)
   where
     later : (c d : Bool) → Compared a v c → Compared (suc a) v d → holds d ≤ holds c
-    later true d q s = holds-le-one d
+    later true d q s = holds_le_one d
     later false false q s = zero-le
     later false true (above q) (below s) = absurd (let no' : ⊥ = omega arith in no')
 
@@ -178,25 +178,25 @@ one_more v test a (suc n) =
     go true false c p q d s h = omega (arith, h, later c d q s)
     go false false c p q d s h = omega (arith, h, later c d q s)
 
-pub those-none : (a n : ℕ) → those (λ k. false) a n ≡ []
+pub those_none : (a n : ℕ) → those (λ k. false) a n ≡ []
 unfolding those pick
-those-none a zero = refl
-those-none a (suc n) = those-none (suc a) n
+those_none a zero = refl
+those_none a (suc n) = those_none (suc a) n
 
-begins-few : (axes : ℕ) (points : List (List ℕ)) (a n : ℕ) → length (those (begins axes points) a n) ≤ length points
+begins_few : (axes : ℕ) (points : List (List ℕ)) (a n : ℕ) → length (those (begins axes points) a n) ≤ length points
 unfolding begins
-begins-few axes [] a n = rw (those-none a n) zero-le
-begins-few axes (p ∷ points) a n =
-    omega (arith, one_more (get_or p axes 0) (begins axes points) a n, begins-few axes points a n, holds-le-one (leb a (get_or p axes 0)))
+begins_few axes [] a n = rw (those_none a n) zero-le
+begins_few axes (p ∷ points) a n =
+    omega (arith, one_more (get_or p axes 0) (begins axes points) a n, begins_few axes points a n, holds_le_one (leb a (get_or p axes 0)))
 
-layers-many : (rs : List ℕ) (r : ℕ) (points : List (List ℕ)) (zs : List ℕ) → length (layers-at rs r points zs) ≡ length zs
-unfolding layers-at
-layers-many rs r points [] = refl
-layers-many rs r points (z ∷ zs) = ap suc (layers-many rs r points zs)
+layers_many : (rs : List ℕ) (r : ℕ) (points : List (List ℕ)) (zs : List ℕ) → length (layers_at rs r points zs) ≡ length zs
+unfolding layers_at
+layers_many rs r points [] = refl
+layers_many rs r points (z ∷ zs) = ap suc (layers_many rs r points zs)
 
 few : (rs : List ℕ) (r : ℕ) (points : List (List ℕ)) → length (layers rs r points) ≤ length points
 unfolding layers levels
-few rs r points = rw (layers-many rs r points (those (begins (length rs) points) 0 r)) (begins-few (length rs) points 0 r)
+few rs r points = rw (layers_many rs r points (those (begins (length rs) points) 0 r)) (begins_few (length rs) points 0 r)
 
 -- ---- how large a layer can be
 
@@ -208,39 +208,39 @@ unfoldable pub AllFit : (wide high : ℕ) → List Layer → Type 0
 AllFit wide high [] = Unit {0}
 AllFit wide high (l ∷ ls) = Fits wide high l × AllFit wide high ls
 
-next-most : (test : ℕ → Bool) (a n r : ℕ) → a + n ≤ r → next_level (those test a n) r ≤ r
+next_most : (test : ℕ → Bool) (a n r : ℕ) → a + n ≤ r → next_level (those test a n) r ≤ r
 unfolding those next_level pick
-next-most test a zero r h = omega arith
-next-most test a (suc n) r h = go (test a) (next-most test (suc a) n r (omega arith))
+next_most test a zero r h = omega arith
+next_most test a (suc n) r h = go (test a) (next_most test (suc a) n r (omega arith))
   where
     go : (b : Bool) → next_level (those test (suc a) n) r ≤ r → next_level (pick b (a ∷ those test (suc a) n) (those test (suc a) n)) r ≤ r
     go true k = omega arith
     go false k = k
 
-area-most : (rs : List ℕ) (points : List (List ℕ)) (z : ℕ) → area-at rs points z ≤ box rs
-unfolding area-at
-area-most rs points z = count-le-box rs (λ c. leb 1 (cover points (c ++ (z ∷ []))))
+area_most : (rs : List ℕ) (points : List (List ℕ)) (z : ℕ) → area_at rs points z ≤ box rs
+unfolding area_at
+area_most rs points z = count_le_box rs (λ c. leb 1 (cover points (c ++ (z ∷ []))))
 
 module _ (rs : List ℕ) (r : ℕ) (points : List (List ℕ)) {wide high : ℕ} (across : box rs ≤ wide) (up : r ≤ high) where
-  fit : (test : ℕ → Bool) (a n : ℕ) → a + n ≤ r → AllFit wide high (layers-at rs r points (those test a n))
-  unfolding AllFit layers-at those pick
+  fit : (test : ℕ → Bool) (a n : ℕ) → a + n ≤ r → AllFit wide high (layers_at rs r points (those test a n))
+  unfolding AllFit layers_at those pick
   fit test a zero h = tt
   fit test a (suc n) h = go (test a) (fit test (suc a) n (omega arith))
     where
-      here : Fits wide high (record { area = area-at rs points a; height = next_level (those test (suc a) n) r - a })
+      here : Fits wide high (record { area = area_at rs points a; height = next_level (those test (suc a) n) r - a })
       here =
           record {
-            area = omega (arith, area-most rs points a);
-            height = omega (arith, next-most test (suc a) n r (let i : suc a + n ≤ r = omega arith in i));
+            area = omega (arith, area_most rs points a);
+            height = omega (arith, next_most test (suc a) n r (let i : suc a + n ≤ r = omega arith in i));
           }
 
-      go : (b : Bool) → AllFit wide high (layers-at rs r points (those test (suc a) n)) → AllFit wide high (layers-at rs r points (pick b (a ∷ those test (suc a) n) (those test (suc a) n)))
+      go : (b : Bool) → AllFit wide high (layers_at rs r points (those test (suc a) n)) → AllFit wide high (layers_at rs r points (pick b (a ∷ those test (suc a) n) (those test (suc a) n)))
       go true k = (here, k)
       go false k = k
 
-  pub layers-fit : AllFit wide high (layers rs r points)
+  pub layers_fit : AllFit wide high (layers rs r points)
   unfolding layers levels
-  layers-fit = fit (begins (length rs) points) 0 r (omega arith)
+  layers_fit = fit (begins (length rs) points) 0 r (omega arith)
 
-pub add-up : LayersAddUp
-add-up = record { whole = whole; few = few }
+pub add_up : LayersAddUp
+add_up = record { whole = whole; few = few }

@@ -19,8 +19,8 @@ unfoldable pub levels : (axes : ℕ) → ℕ → List (List ℕ) → List ℕ
 levels axes r points = those (begins axes points) 0 r
 
 -- "The area counts the cells of layer z that some point dominates": rs is the reference on the other axes.
-unfoldable pub area-at : (rs : List ℕ) → List (List ℕ) → ℕ → ℕ
-area-at rs points z = count rs (λ c. leb 1 (cover points (c ++ (z ∷ []))))
+unfoldable pub area_at : (rs : List ℕ) → List (List ℕ) → ℕ → ℕ
+area_at rs points z = count rs (λ c. leb 1 (cover points (c ++ (z ∷ []))))
 
 -- "The height runs to the next such z, or to the reference."
 unfoldable pub next_level : List ℕ → ℕ → ℕ
@@ -31,13 +31,13 @@ pub record Layer : Type 0 where
   pub area : ℕ
   pub height : ℕ
 
-unfoldable pub layers-at : (rs : List ℕ) (r : ℕ) → List (List ℕ) → List ℕ → List Layer
-layers-at rs r points [] = []
-layers-at rs r points (z ∷ zs) = record { area = area-at rs points z; height = next_level zs r - z } ∷ layers-at rs r points zs
+unfoldable pub layers_at : (rs : List ℕ) (r : ℕ) → List (List ℕ) → List ℕ → List Layer
+layers_at rs r points [] = []
+layers_at rs r points (z ∷ zs) = record { area = area_at rs points z; height = next_level zs r - z } ∷ layers_at rs r points zs
 
 -- The layers of the points, from the lowest on.
 unfoldable pub layers : (rs : List ℕ) (r : ℕ) → List (List ℕ) → List Layer
-layers rs r points = layers-at rs r points (levels (length rs) r points)
+layers rs r points = layers_at rs r points (levels (length rs) r points)
 
 -- Area × height, added up exactly.
 unfoldable pub cells_of : List Layer → ℕ

@@ -5,8 +5,8 @@ use Rattle.line.specs.declared.column.Column.{Column}
 use Rattle.line.specs.Line.{low, low_by}
 
 -- The column with one more point passed, of the index `owner`, at y.
-unfoldable pub column-with : Column → ℕ → ℕ → Column
-column-with c y owner =
+unfoldable pub column_with : Column → ℕ → ℕ → Column
+column_with c y owner =
     pick (ltb y c.least) (record { least = y; owner = owner; second = c.least })
     (pick (ltb y c.second) (record { least = c.least; owner = c.owner; second = y }) c)
 

@@ -1,6 +1,6 @@
 -- Entering the next point in the line: the entries that it covers are flagged or left out, and its own entry put in.
 use Rattle.std.specs.Prelude.{ℕ, ◌+◌, ◌-◌, ◌≤◌, ◌<◌, ◌≡◌, List, ◌∷◌, ◌++◌, [], length, take, drop, get_or}
-use Rattle.line.specs.Line.{x-of, index_of, flag-of, Rising, Flagged, ValidLine, Ranked, AlikeAt, Alike}
+use Rattle.line.specs.Line.{x_of, index_of, flag_of, Rising, Flagged, ValidLine, Ranked, AlikeAt, Alike}
 
 -- Every entry is of a point of index below n.
 unfoldable pub Below : ℕ → List ℕ → Type 0
@@ -11,7 +11,7 @@ Below n (w ∷ line) = (index_of w < n) × Below n line
 -- they must be, and with `next` they count as the old ones did.
 pub record ThinnedLine (front old : List ℕ) (next : ℕ) (new : List ℕ) : Type 0 where
   pub short : length new ≤ length old
-  pub rising : Rising (x-of next) new
+  pub rising : Rising (x_of next) new
   pub flags : Flagged (front ++ (next ∷ [])) new
   pub alike : (i j : ℕ) → AlikeAt (next ∷ (front ++ old)) (next ∷ (front ++ new)) i j
   pub below : (n : ℕ) → Below n old → Below n new
@@ -22,7 +22,7 @@ pub record ThinningLine (line : List ℕ) (m at next : ℕ) : Type 0 where
   pub room : m ≤ length line
   pub within : at ≤ m
   pub valid : ValidLine (take m line)
-  pub beyond : (k : ℕ) → at ≤ k → k < m → x-of next ≤ x-of (get_or line k 0)
+  pub beyond : (k : ℕ) → at ≤ k → k < m → x_of next ≤ x_of (get_or line k 0)
 
 pub record Walked (line : List ℕ) (m at next : ℕ) (left : List ℕ) (to from : ℕ) : Type 0 where
   pub front : at ≤ to
@@ -41,8 +41,8 @@ pub record Closed (line : List ℕ) (to from m : ℕ) (left : List ℕ) (end : �
 pub record Entering (line : List ℕ) (m at next : ℕ) : Type 0 where
   pub room : m < length line
   pub valid : ValidLine (take m line)
-  pub ranked : Ranked (take m line) (x-of next) at
-  pub clear : flag-of next ≡ 0
+  pub ranked : Ranked (take m line) (x_of next) at
+  pub clear : flag_of next ≡ 0
 
 pub record Entered (ry : ℕ) (line : List ℕ) (m next : ℕ) (left : List ℕ) (end : ℕ) : Type 0 where
   pub within : end ≤ m + 1

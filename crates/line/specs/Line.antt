@@ -12,8 +12,8 @@ entry_of x y index = ((x * 2097152 + y) * 1024 + index) * 2
 abbrev pub flagged : ℕ → ℕ
 flagged w = w / 2 * 2 + 1
 
-abbrev pub x-of : ℕ → ℕ
-x-of w = w / 4294967296
+abbrev pub x_of : ℕ → ℕ
+x_of w = w / 4294967296
 
 abbrev pub y_of : ℕ → ℕ
 y_of w = w / 2048 % 2097152
@@ -21,12 +21,12 @@ y_of w = w / 2048 % 2097152
 abbrev pub index_of : ℕ → ℕ
 index_of w = w / 2 % 1024
 
-abbrev pub flag-of : ℕ → ℕ
-flag-of w = w % 2
+abbrev pub flag_of : ℕ → ℕ
+flag_of w = w % 2
 
 -- The point of an entry, seen along z.
 abbrev pub spot : ℕ → List ℕ
-spot w = x-of w ∷ y_of w ∷ []
+spot w = x_of w ∷ y_of w ∷ []
 
 -- How many entries pass a test.
 unfoldable pub tally : (ℕ → Bool) → List ℕ → ℕ
@@ -50,13 +50,13 @@ low_by t line j = tally (λ w. both (eqb (index_of w) t) (leb (y_of w) j)) line
 -- The entries ascend on x, from this x on.
 unfoldable pub Rising : ℕ → List ℕ → Type 0
 Rising x [] = Unit {0}
-Rising x (w ∷ line) = (x ≤ x-of w) × Rising (x-of w) line
+Rising x (w ∷ line) = (x ≤ x_of w) × Rising (x_of w) line
 
 -- What the flag of an entry says of the entries before it: where it is clear, none of them is below it on y; where
 -- it is set, they dominate all that it dominates.
 pub record FlagRight (before : List ℕ) (w : ℕ) : Type 0 where
-  pub clear : flag-of w ≡ 0 → (j : ℕ) → j < y_of w → low before j ≡ 0
-  pub set : flag-of w ≡ 1 → (i j : ℕ) → dominates (spot w) (i ∷ j ∷ []) ≡ true → 1 ≤ over before (i ∷ j ∷ [])
+  pub clear : flag_of w ≡ 0 → (j : ℕ) → j < y_of w → low before j ≡ 0
+  pub set : flag_of w ≡ 1 → (i j : ℕ) → dominates (spot w) (i ∷ j ∷ []) ≡ true → 1 ≤ over before (i ∷ j ∷ [])
 
 unfoldable pub Flagged : List ℕ → List ℕ → Type 0
 Flagged before [] = Unit {0}
@@ -71,14 +71,14 @@ pub record ValidLine (line : List ℕ) : Type 0 where
 pub record Between (line : List ℕ) (x low size : ℕ) : Type 0 where
   pub rising : Rising 0 line
   pub within : low + size ≤ length line
-  pub before : (k : ℕ) → k < low → x-of (get_or line k 0) ≤ x
-  pub after : (k : ℕ) → low + size ≤ k → k < length line → x < x-of (get_or line k 0)
+  pub before : (k : ℕ) → k < low → x_of (get_or line k 0) ≤ x
+  pub after : (k : ℕ) → low + size ≤ k → k < length line → x < x_of (get_or line k 0)
 
 -- Where a point at x belongs: behind the entries that are at most x.
 pub record Ranked (line : List ℕ) (x at : ℕ) : Type 0 where
   pub within : at ≤ length line
-  pub before : (k : ℕ) → k < at → x-of (get_or line k 0) ≤ x
-  pub after : (k : ℕ) → at ≤ k → k < length line → x < x-of (get_or line k 0)
+  pub before : (k : ℕ) → k < at → x_of (get_or line k 0) ≤ x
+  pub after : (k : ℕ) → at ≤ k → k < length line → x < x_of (get_or line k 0)
 
 -- Two lines that count alike at a cell: as many entries dominate it, where two are as good as more, and the same ones where
 -- it is at most one. Alike: at every cell of the rows below ry.

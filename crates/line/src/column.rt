@@ -1,6 +1,6 @@
 // A column of cells over one x: which of the points passed are lowest there.
 ghost use Rattle.std.specs.Prelude.{◌≡◌};
-ghost use Rattle.line.specs.Column.{column-with};
+ghost use Rattle.line.specs.Column.{column_with};
 
 // The least y of the points passed, which of them has it, and the second least y.
 #[derive(Drop)]
@@ -13,7 +13,7 @@ pub struct Column {
 impl Column {
     // The column with one more point passed.
     pub fn with(self, y: u64, owner: usize) -> Column
-        ensures { result ≡ column-with self y owner }
+        ensures { result ≡ column_with self y owner }
     {
         if y < self.least {
             Column {

@@ -6,7 +6,7 @@ ghost use Rattle.std.specs.Prelude.{◌≡◌, ℕ, ◌+◌, ◌-◌, ◌≤◌,
 ghost use Rattle.slices.specs.Choices.{pick};
 ghost use Rattle.slices.specs.Put.{put};
 ghost use Rattle.hypervolume.specs.Cells.{holds};
-ghost use Rattle.line.specs.Line.{entry_of, flagged, x-of, y_of, index_of, flag-of, Rising, Between, Ranked};
+ghost use Rattle.line.specs.Line.{entry_of, flagged, x_of, y_of, index_of, flag_of, Rising, Between, Ranked};
 ghost use Rattle.line.specs.Column.{ColumnState};
 ghost use Rattle.line.specs.Entries.{ThinningLine, Walked, Closed, Entering, Entered};
 
@@ -22,7 +22,7 @@ pub fn entry(x: u64, y: u64, index: usize) -> u64
 }
 
 pub fn x_of(entry: u64) -> u64
-    ensures { result ≡ x-of entry }
+    ensures { result ≡ x_of entry }
 {
     entry / 4294967296
 }
@@ -40,7 +40,7 @@ pub fn index_of(entry: u64) -> usize
 }
 
 pub fn flag_of(entry: u64) -> u64
-    ensures { result ≡ flag-of entry }
+    ensures { result ≡ flag_of entry }
 {
     entry % 2
 }
@@ -62,7 +62,7 @@ fn flag_where(test: bool, entry: u64) -> u64
 // 1 where the entry is at most x, else 0. By arithmetic, since no branch could tell beforehand.
 fn reaches(entry: u64, x: u64) -> usize
     requires { x ≤ 1048576 }
-    ensures { result ≡ holds (leb (x-of entry) x) }
+    ensures { result ≡ holds (leb (x_of entry) x) }
 {
     ((x + 4294967296 - entry / 4294967296) / 4294967296) as usize
 }

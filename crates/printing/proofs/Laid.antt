@@ -7,7 +7,7 @@ use lib.ListN.{length, set, length-append}
 use Rattle.slices.specs.Put.{put}
 use Rattle.slices.proofs.Put.{put_one, put_then}
 use Rattle.text.specs.Justified.{justified}
-use Rattle.text.proofs.Justified.{length-justified}
+use Rattle.text.proofs.Justified.{length_justified}
 
 -- The k bytes `done` stand from byte `at` on.
 pub record Laid (old : List ℕ) (at : ℕ) (done : List ℕ) (k : ℕ) (out : List ℕ) : Type 0 where
@@ -27,9 +27,9 @@ module _ {old : List ℕ} {at : ℕ} {done : List ℕ} {k : ℕ} {out : List ℕ
             ∙ put_then old at done new (omega arith);
       }
 
-  pub laid-column : {out' : List ℕ} (width n : ℕ) → out' ≡ put out (at + k) (justified width n)
+  pub laid_column : {out' : List ℕ} (width n : ℕ) → out' ≡ put out (at + k) (justified width n)
       → Laid old at (done ++ justified width n) (k + width) out'
-  laid-column width n e = laid_more (justified width n) width (length-justified width n) e
+  laid_column width n e = laid_more (justified width n) width (length_justified width n) e
 
-  pub laid-byte : (b : ℕ) → at + k < length out → Laid old at (done ++ (b ∷ [])) (k + 1) (set out (at + k) b)
-  laid-byte b inside = laid_more (b ∷ []) 1 refl (put_one out (at + k) b inside)
+  pub laid_byte : (b : ℕ) → at + k < length out → Laid old at (done ++ (b ∷ [])) (k + 1) (set out (at + k) b)
+  laid_byte b inside = laid_more (b ∷ []) 1 refl (put_one out (at + k) b inside)

@@ -3,7 +3,7 @@
 use Rattle.std.specs.Prelude.{ℕ, ◌*◌, ◌≤◌, ◌≡◌, List, length, take}
 use Rattle.words.specs.Archive.{Archive}
 use Rattle.words.specs.Layout.{read}
-use Rattle.words.specs.Format.{archive-rows}
+use Rattle.words.specs.Format.{archive_rows}
 use Rattle.printing.specs.Printed.{printed, PrintsRead}
 
 -- So many bytes of a card stand at the front of the input, as PrintRoom has them. The words are enough for every capacity, and the
@@ -17,7 +17,7 @@ pub record LoadRoom (input : List ℕ) (bytes : ℕ) (words out : List ℕ) : Ty
 -- The words pass rows 1 to 3, and whatever card has the bytes read, as PrintsRead has it, what a program prints of it is the program's
 -- text of the archive in the words.
 pub record Holds (input : List ℕ) (bytes : ℕ) (words : List ℕ) : Type 0 where
-  pub passes : archive-rows words 0 ≡ 0
+  pub passes : archive_rows words 0 ≡ 0
   pub prints : (text : Archive → List ℕ) (card : List ℕ) → take (length input) card ≡ take bytes input → printed text card ≡ text (read words)
 
 -- Where r is 0 the card is accepted, and nothing is written. Else r bytes are written, and they are all that a program prints, whatever

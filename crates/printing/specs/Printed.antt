@@ -10,13 +10,13 @@ use Rattle.words.specs.Layout.{extent, read}
 use Rattle.card.specs.Card.{Loading, load}
 
 -- "For a refused card it prints one line, refusal number and card line number in eight bytes each, and byte 10."
-unfoldable pub refusal-line : ℕ → ℕ → List ℕ
-refusal-line number line = justified 8 number ++ (justified 8 line ++ (newline ∷ []))
+unfoldable pub refusal_line : ℕ → ℕ → List ℕ
+refusal_line number line = justified 8 number ++ (justified 8 line ++ (newline ∷ []))
 
 -- The text of an accepted card's archive (refusal 0), or the line of a refused one.
 unfoldable pub shown : (text : Archive → List ℕ) → ℕ → Loading → List ℕ
 shown text zero l = text (read l.words)
-shown text (suc n) l = refusal-line (suc n) l.answer.line
+shown text (suc n) l = refusal_line (suc n) l.answer.line
 
 -- "The report program reads a card from standard input": the card is loaded into a slice that is long enough for every
 -- capacity.
@@ -28,7 +28,7 @@ printed text card = shown text (loaded card).answer.refusal (loaded card)
 
 -- Where r bytes of the output are to be written out: they are what the program prints, at the output's front.
 pub record Prints (text : Archive → List ℕ) (card out : List ℕ) (r : ℕ) (after : List ℕ) : Type 0 where
-  pub text-put : after ≡ put out 0 (printed text card)
+  pub text_put : after ≡ put out 0 (printed text card)
   pub long : r ≡ length (printed text card)
   pub within : r ≤ length after
   pub part : r ≡ length (take r after)
@@ -51,4 +51,4 @@ pub record PrintsRead (text : Archive → List ℕ) (input : List ℕ) (read : �
 -- What is proved of it besides the contracts (proofs/Printouts).
 pub record Printing : Type 0 where
   -- of a card only the first 514 lines matter here too: a program may cut it behind them
-  pub enough-read : (text : Archive → List ℕ) (card : List ℕ) (k : ℕ) → 33 * 514 ≤ k → printed text (take k card) ≡ printed text card
+  pub enough_read : (text : Archive → List ℕ) (card : List ℕ) (k : ℕ) → 33 * 514 ≤ k → printed text (take k card) ≡ printed text card

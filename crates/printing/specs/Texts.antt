@@ -3,7 +3,7 @@
 use Rattle.std.specs.Prelude.{ℕ, zero, suc, ◌+◌, ◌*◌, List, ◌∷◌, ◌++◌, [], ltb, length}
 use Rattle.slices.specs.Put.{put}
 use Rattle.words.specs.Layout.{read}
-use Rattle.words.specs.Format.{guard, archive-rows}
+use Rattle.words.specs.Format.{guard, archive_rows}
 
 -- A line for each of a list, one behind the other: of the records "in archive order".
 unfoldable pub lines_of : {A : Type 0} → (A → List ℕ) → List A → List ℕ
@@ -11,8 +11,8 @@ lines_of line [] = []
 lines_of line (a ∷ l) = line a ++ lines_of line l
 
 -- Rows 1 to 3, then row 16: an output shorter than so many bytes for each of count + 1 lines.
-unfoldable pub text-rows : (bytes : ℕ) → List ℕ → List ℕ → ℕ
-text-rows bytes w out = archive-rows w (guard (ltb (length out) (bytes * (length (read w).rows + 1))) 16 0)
+unfoldable pub text_rows : (bytes : ℕ) → List ℕ → List ℕ → ℕ
+text_rows bytes w out = archive_rows w (guard (ltb (length out) (bytes * (length (read w).rows + 1))) 16 0)
 
 -- The output where a refusal is given (not 0); and where none is, with this text at its front: "output bytes behind that
 -- length stay unchanged".

@@ -4,12 +4,12 @@ ghost use Rattle.std.specs.Prelude.{◌≡◌, ◌+◌, ◌≤◌, length};
 ghost use Rattle.slices.specs.Put.{put};
 ghost use Rattle.text.specs.Justified.{justified};
 ghost use Rattle.words.specs.Layout.{read};
-ghost use Rattle.words.specs.Places.{as-record};
+ghost use Rattle.words.specs.Places.{as_record};
 ghost use Rattle.calls.specs.Lent.{answer};
-ghost use Rattle.printing.specs.Texts.{lines_of, text-rows, output};
-ghost use Rattle.printing.specs.Printed.{refusal-line, PrintRoom, PrintsRead};
+ghost use Rattle.printing.specs.Texts.{lines_of, text_rows, output};
+ghost use Rattle.printing.specs.Printed.{refusal_line, PrintRoom, PrintsRead};
 ghost use Rattle.printing.specs.Cards.{LoadRoom, LoadsRead};
-ghost use Rattle.printing.specs.Forms.{text-row, text_of, LastColumn, TextForm, TextRoom};
+ghost use Rattle.printing.specs.Forms.{text_row, text_of, LastColumn, TextForm, TextRoom};
 
 use calls::Answer;
 use card::{long_enough, read_card};
@@ -30,7 +30,7 @@ fn put_last(out: &mut [u8], at: usize, wide: usize, last: u64)
 // Writes one line at byte `at`: a number and a point in eight bytes each, a number in `wide`, and byte 10.
 fn put_line(out: &mut [u8], at: usize, r: Record, wide: usize)
     requires { LastColumn wide × (at + 33 + wide ≤ length out.old) }
-    ensures { out.new ≡ put out.old at (text-row wide (as-record r)) }
+    ensures { out.new ≡ put out.old at (text_row wide (as_record r)) }
 {
     let axes = r.point.at;
     let x = axes[0] as u64;
@@ -47,7 +47,7 @@ fn put_line(out: &mut [u8], at: usize, r: Record, wide: usize)
 // Writes the lines of the records behind the first line.
 fn put_records(w: &[u64], out: &mut [u8], wide: usize)
     requires { TextRoom wide w.now out.old }
-    ensures { out.new ≡ put out.old (33 + wide) (lines_of (text-row wide) (read w.now).rows) }
+    ensures { out.new ≡ put out.old (33 + wide) (lines_of (text_row wide) (read w.now).rows) }
 {
     let n = w[0] as usize;
     let mut i: usize = 0;
@@ -60,7 +60,7 @@ fn put_records(w: &[u64], out: &mut [u8], wide: usize)
 // The text of the archive: rows 1 to 3, then 16; else its length, with the text at the front of the output.
 pub fn write_text(w: &[u64], out: &mut [u8], first: usize, wide: usize) -> Answer
     requires { TextForm first wide }
-    ensures { (result ≡ answer (text-rows (33 + wide) w.now out.old) (length (text_of first wide (read w.now)))) × (out.new ≡ output (text-rows (33 + wide) w.now out.old) (text_of first wide (read w.now)) out.old) }
+    ensures { (result ≡ answer (text_rows (33 + wide) w.now out.old) (length (text_of first wide (read w.now)))) × (out.new ≡ output (text_rows (33 + wide) w.now out.old) (text_of first wide (read w.now)) out.old) }
 {
     let refusal = words::refusal(w);
     if refusal != 0 {
@@ -83,7 +83,7 @@ pub fn write_text(w: &[u64], out: &mut [u8], first: usize, wide: usize) -> Answe
 // Writes the line of a refused card.
 fn put_refusal(out: &mut [u8], refusal: u64, line: u64)
     requires { 17 ≤ length out.old }
-    ensures { out.new ≡ put out.old 0 (refusal-line refusal line) }
+    ensures { out.new ≡ put out.old 0 (refusal_line refusal line) }
 {
     text::put_number(out, 0, 8, refusal);
     text::put_number(out, 8, 8, line);

@@ -2,8 +2,8 @@
 -- cites it.
 use Rattle.std.specs.Prelude.{ℕ, List, map}
 use Rattle.words.specs.Archive.{Trial, Row, Archive}
-use Rattle.calls.specs.Calls.{joint-with}
+use Rattle.calls.specs.Calls.{joint_with}
 
 -- The joint counts of a trial with these records.
 unfoldable pub shares : Archive → Trial → List Row → List ℕ
-shares a t rows = map (joint-with a t) rows
+shares a t rows = map (joint_with a t) rows

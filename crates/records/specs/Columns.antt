@@ -3,7 +3,7 @@
 use Rattle.std.specs.Prelude.{ℕ, zero, suc, ◌+◌, List, ◌∷◌, ◌++◌, map, [], ltb, get_or, take, drop}
 use Rattle.slices.specs.Choices.{pick}
 use Rattle.words.specs.Archive.{Row}
-use Rattle.words.specs.Layout.{record-words}
+use Rattle.words.specs.Layout.{record_words}
 
 -- The first n of every five words, read from the front.
 unfoldable pub fifths : ℕ → List ℕ → List ℕ
@@ -12,18 +12,18 @@ fifths (suc n) w = get_or w 0 0 ∷ fifths n (drop 5 w)
 
 -- A field of a record by its place: 0 the trial number, 1 to 3 the coordinates by axis, 4 the kept contribution.
 unfoldable pub field_of : ℕ → Row → ℕ
-field_of k r = get_or (record-words r) k 0
+field_of k r = get_or (record_words r) k 0
 
 unfoldable pub column : ℕ → List Row → List ℕ
 column k rows = map (field_of k) rows
 
 -- The records but the one at place k; all of them where there is none.
-unfoldable pub leave-out : ℕ → List Row → List Row
-leave-out k rows = take k rows ++ drop (suc k) rows
+unfoldable pub leave_out : ℕ → List Row → List Row
+leave_out k rows = take k rows ++ drop (suc k) rows
 
 -- The place among all records of the one at place p of the records but the one at place k.
-unfoldable pub place-but : ℕ → ℕ → ℕ
-place-but k p = pick (ltb p k) p (p + 1)
+unfoldable pub place_but : ℕ → ℕ → ℕ
+place_but k p = pick (ltb p k) p (p + 1)
 
 -- These records with these kept contributions.
 unfoldable pub rekept : List Row → List ℕ → List Row

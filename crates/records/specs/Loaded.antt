@@ -3,7 +3,7 @@ use Rattle.std.specs.Prelude.{ℕ, ◌+◌, ◌≤◌, ◌≡◌, List, ◌++◌
 use Rattle.words.specs.Archive.{trials, points}
 use Rattle.words.specs.Layout.{word}
 use Rattle.words.specs.Places.{rows_before}
-use Rattle.records.specs.Columns.{leave-out}
+use Rattle.records.specs.Columns.{leave_out}
 
 -- The points of n records from place `first` on, written at `at` and behind it; what stands before is kept.
 pub record PointsGathered (w : List ℕ) (first n at : ℕ) (before after : List (List ℕ)) : Type 0 where
@@ -12,7 +12,7 @@ pub record PointsGathered (w : List ℕ) (first n at : ℕ) (before after : List
 
 -- The points of the records but the one at place k: the first m of the list.
 pub record PointsLoaded (w : List ℕ) (k m : ℕ) (before after : List (List ℕ)) : Type 0 where
-  pub many : m ≡ length (leave-out k (rows_before w (word w 0)))
+  pub many : m ≡ length (leave_out k (rows_before w (word w 0)))
   pub few : m ≤ 512
-  pub held : take m after ≡ points (trials (leave-out k (rows_before w (word w 0))))
+  pub held : take m after ≡ points (trials (leave_out k (rows_before w (word w 0))))
   pub long : length after ≡ length before

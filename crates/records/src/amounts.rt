@@ -2,10 +2,10 @@
 // that are not 0.
 ghost use Rattle.std.specs.Prelude.{◌≡◌, false, not, ℕ, ◌+◌, ◌-◌, ◌*◌, ◌≤◌, ◌<◌, ltb, eqb, length, get_or};
 ghost use Rattle.slices.specs.Put.{put};
-ghost use Rattle.slices.specs.Amounts.{some_pair, moved, Each, Placed, amounts-at};
+ghost use Rattle.slices.specs.Amounts.{some_pair, moved, Each, Placed, amounts_at};
 ghost use Rattle.words.specs.Layout.{records};
 ghost use Rattle.words.specs.Places.{rows_before};
-ghost use Rattle.records.specs.Columns.{column, leave-out, place-but, rekept};
+ghost use Rattle.records.specs.Columns.{column, leave_out, place_but, rekept};
 
 // Whether a contribution of the first records differs from its count.
 pub fn some_differs(w: &[u64], counts: &[u64]) -> bool
@@ -25,7 +25,7 @@ pub fn some_differs(w: &[u64], counts: &[u64]) -> bool
 // Whether no contribution of n records is below its count, of the counts at these places.
 pub fn enough(w: &[u64], n: usize, places: &[u16], counts: &[u64]) -> bool
     requires { (8 + 5 * n ≤ length w.now) × Placed n places.now counts.now }
-    ensures { result ≡ not (some_pair (λ v m. ltb v m) (column 4 (rows_before w.now n)) (amounts-at n places.now counts.now)) }
+    ensures { result ≡ not (some_pair (λ v m. ltb v m) (column 4 (rows_before w.now n)) (amounts_at n places.now counts.now)) }
 {
     let mut k = 0;
     while k < places.len() {
@@ -41,7 +41,7 @@ pub fn enough(w: &[u64], n: usize, places: &[u16], counts: &[u64]) -> bool
 // The place among all records of the one at place p of the records but the one at `skip`.
 fn place_but(skip: usize, p: usize) -> usize
     requires { p < 65536 }
-    ensures { (result ≡ place-but skip p) × (result ≤ 65536) }
+    ensures { (result ≡ place_but skip p) × (result ≤ 65536) }
 {
     if p < skip { p } else { p + 1 }
 }
@@ -50,8 +50,8 @@ fn place_but(skip: usize, p: usize) -> usize
 // places among these records. None exceeds it without.
 pub fn within(w: &[u64], n: usize, skip: usize, places: &[u16], counts: &[u64], limit: u64) -> bool
     requires n_in_bounds { (8 + 5 * n ≤ length w.now) × (skip < n) × Placed (n - 1) places.now counts.now × (limit ≤ 1152921504606846976) }
-    requires each { Each (column 4 (leave-out skip (rows_before w.now n))) limit × Each counts.now limit }
-    ensures { result ≡ not (some_pair (λ v m. ltb limit (v + m)) (column 4 (leave-out skip (rows_before w.now n))) (amounts-at (n - 1) places.now counts.now)) }
+    requires each { Each (column 4 (leave_out skip (rows_before w.now n))) limit × Each counts.now limit }
+    ensures { result ≡ not (some_pair (λ v m. ltb limit (v + m)) (column 4 (leave_out skip (rows_before w.now n))) (amounts_at (n - 1) places.now counts.now)) }
 {
     let mut k = 0;
     while k < places.len() {
@@ -67,8 +67,8 @@ pub fn within(w: &[u64], n: usize, skip: usize, places: &[u16], counts: &[u64], 
 // Lowers the contributions of n records at these places by their counts, none of which is too high.
 pub fn lower_at(w: &mut [u64], n: usize, places: &[u16], counts: &[u64])
     requires n_in_bounds { (8 + 5 * n ≤ length w.old) × Placed n places.now counts.now }
-    requires counts_value { some_pair (λ v m. ltb v m) (column 4 (rows_before w.old n)) (amounts-at n places.now counts.now) ≡ false }
-    ensures { w.new ≡ put w.old 8 (records (rekept (rows_before w.old n) (moved (λ v m. v - m) (column 4 (rows_before w.old n)) (amounts-at n places.now counts.now)))) }
+    requires counts_value { some_pair (λ v m. ltb v m) (column 4 (rows_before w.old n)) (amounts_at n places.now counts.now) ≡ false }
+    ensures { w.new ≡ put w.old 8 (records (rekept (rows_before w.old n) (moved (λ v m. v - m) (column 4 (rows_before w.old n)) (amounts_at n places.now counts.now)))) }
 {
     let mut k = 0;
     while k < places.len() {
@@ -82,7 +82,7 @@ pub fn lower_at(w: &mut [u64], n: usize, places: &[u16], counts: &[u64])
 pub fn raise_at(w: &mut [u64], n: usize, places: &[u16], counts: &[u64])
     requires n_in_bounds { (8 + 5 * n ≤ length w.old) × Placed n places.now counts.now }
     requires each { Each (column 4 (rows_before w.old n)) 1152921504606846976 × Each counts.now 1152921504606846976 }
-    ensures { w.new ≡ put w.old 8 (records (rekept (rows_before w.old n) (moved (λ v m. v + m) (column 4 (rows_before w.old n)) (amounts-at n places.now counts.now)))) }
+    ensures { w.new ≡ put w.old 8 (records (rekept (rows_before w.old n) (moved (λ v m. v + m) (column 4 (rows_before w.old n)) (amounts_at n places.now counts.now)))) }
 {
     let mut k = 0;
     while k < places.len() {
@@ -96,7 +96,7 @@ pub fn raise_at(w: &mut [u64], n: usize, places: &[u16], counts: &[u64])
 pub fn raise_values(values: &mut [u64], places: &[u16], counts: &[u64])
     requires placed { Placed (length values.old) places.now counts.now }
     requires each { Each values.old 1152921504606846976 × Each counts.now 1152921504606846976 }
-    ensures { values.new ≡ moved (λ v m. v + m) values.old (amounts-at (length values.old) places.now counts.now) }
+    ensures { values.new ≡ moved (λ v m. v + m) values.old (amounts_at (length values.old) places.now counts.now) }
 {
     let mut k = 0;
     while k < places.len() {
@@ -109,7 +109,7 @@ pub fn raise_values(values: &mut [u64], places: &[u16], counts: &[u64])
 // The amount at a place, of those that these places and counts say.
 pub fn amount_at(places: &[u16], counts: &[u64], place: usize) -> u64
     requires { length counts.now ≡ length places.now }
-    ensures { (n : ℕ) → Placed n places.now counts.now → result ≡ get_or (amounts-at n places.now counts.now) place 0 }
+    ensures { (n : ℕ) → Placed n places.now counts.now → result ≡ get_or (amounts_at n places.now counts.now) place 0 }
 {
     let mut k = 0;
     while k < places.len() {

@@ -2,9 +2,9 @@
 ghost use Rattle.std.specs.Prelude.{◌≡◌, ◌+◌, ◌*◌, ◌≤◌, ◌<◌, length, drop};
 ghost use Rattle.slices.specs.Put.{put};
 ghost use Rattle.words.specs.Layout.{word, records};
-ghost use Rattle.words.specs.Format.{archive-rows};
+ghost use Rattle.words.specs.Format.{archive_rows};
 ghost use Rattle.words.specs.Places.{rows_before};
-ghost use Rattle.records.specs.Columns.{fifths, column, leave-out, rekept};
+ghost use Rattle.records.specs.Columns.{fifths, column, leave_out, rekept};
 ghost use Rattle.records.specs.Loaded.{PointsGathered, PointsLoaded};
 
 use hypervolume::put_point;
@@ -24,7 +24,7 @@ pub fn load(w: &[u64], n: usize, field: usize, to: &mut [u64])
 
 // Copies the points of n records, from place `first` on, to `at` and behind it.
 fn gather_points(w: &[u64], first: usize, n: usize, to: &mut [[u32; 3]], at: usize)
-    requires { (archive-rows w.now 0 ≡ 0) × (first + n ≤ word w.now 0) × (at + n ≤ length to.old) }
+    requires { (archive_rows w.now 0 ≡ 0) × (first + n ≤ word w.now 0) × (at + n ≤ length to.old) }
     ensures { PointsGathered w.now first n at to.old to.new }
 {
     let mut i = 0;
@@ -37,7 +37,7 @@ fn gather_points(w: &[u64], first: usize, n: usize, to: &mut [[u32; 3]], at: usi
 
 // The points of the records but the one at place `skip`; of all where skip is the count. Answers how many.
 pub fn load_points(w: &[u64], skip: usize, to: &mut [[u32; 3]]) -> usize
-    requires { (archive-rows w.now 0 ≡ 0) × (skip ≤ word w.now 0) × (512 ≤ length to.old) }
+    requires { (archive_rows w.now 0 ≡ 0) × (skip ≤ word w.now 0) × (512 ≤ length to.old) }
     ensures { PointsLoaded w.now skip result to.old to.new }
 {
     let n = w[0] as usize;

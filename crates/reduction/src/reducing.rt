@@ -4,8 +4,8 @@ ghost use Rattle.std.specs.Prelude.{◌≡◌, ◌++◌, ◌-◌, ◌*◌, ◌�
 ghost use Rattle.slices.specs.Put.{put};
 ghost use Rattle.words.specs.Archive.{Archive};
 ghost use Rattle.words.specs.Layout.{word, layout, read, behind};
-ghost use Rattle.words.specs.Format.{archive-rows};
-ghost use Rattle.calls.specs.Calls.{reduce-rows, after-drops, notes};
+ghost use Rattle.words.specs.Format.{archive_rows};
+ghost use Rattle.calls.specs.Calls.{reduce_rows, after_drops, notes};
 ghost use Rattle.calls.specs.Counted.{IsCounted};
 ghost use Rattle.calls.specs.Lent.{reduce, MeetsOutcome};
 ghost use Rattle.reduction.specs.Columns.{InColumns, Droppable, DropReady, Storing, Stores};
@@ -22,8 +22,8 @@ use words::{reference_of, refusal};
 
 // Rows 18 and 11 to 13.
 fn reduce_rows(w: &[u64], k: u64, rule: u64, log: usize) -> u64
-    requires { archive-rows w.now 0 ≡ 0 }
-    ensures { result ≡ reduce-rows (read w.now) k rule log }
+    requires { archive_rows w.now 0 ≡ 0 }
+    ensures { result ≡ reduce_rows (read w.now) k rule log }
 {
     if !rule_allowed(rule) {
         return 18;
@@ -55,7 +55,7 @@ fn drop_all(
     log: &mut [u64],
 ) -> u64
     requires { DropReady reference.at n total numbers.old points.old kept.old × (n ≤ 512) × (drops ≤ n) × (2 * drops ≤ length log.old) }
-    ensures { (a : Archive) → InColumns a reference.at n total numbers.old points.old kept.old → Droppable a → InColumns (after-drops rule drops a) reference.at (n - drops) result numbers.new points.new kept.new × (log.new ≡ put log.old 0 (notes rule drops a)) }
+    ensures { (a : Archive) → InColumns a reference.at n total numbers.old points.old kept.old → Droppable a → InColumns (after_drops rule drops a) reference.at (n - drops) result numbers.new points.new kept.new × (log.new ≡ put log.old 0 (notes rule drops a)) }
 {
     let mut corners = [[0u32, 0, 0]; 512];
     let mut places = [0u16; 512];
@@ -107,8 +107,8 @@ fn store(
 
 // So many drops: the columns are loaded and written back once.
 fn reduce_by(w: &mut [u64], rule: u64, drops: usize, log: &mut [u64])
-    requires { (archive-rows w.old 0 ≡ 0) × IsCounted (read w.old) × (drops ≤ word w.old 0) × (2 * drops ≤ length log.old) }
-    ensures { (w.new ≡ layout (after-drops rule drops (read w.old)) ++ behind w.old) × (log.new ≡ put log.old 0 (notes rule drops (read w.old))) }
+    requires { (archive_rows w.old 0 ≡ 0) × IsCounted (read w.old) × (drops ≤ word w.old 0) × (2 * drops ≤ length log.old) }
+    ensures { (w.new ≡ layout (after_drops rule drops (read w.old)) ++ behind w.old) × (log.new ≡ put log.old 0 (notes rule drops (read w.old))) }
 {
     let n = w[0] as usize;
     let total = w[5];

@@ -2,13 +2,13 @@
 -- no exported contract cites it.
 use Rattle.std.specs.Prelude.{ℕ, ◌-◌, ◌≤◌, ◌<◌, not, ◌≡◌, List}
 use Rattle.slices.specs.Spread.{Sparse}
-use Rattle.slices.specs.Amounts.{Placed, amounts-at}
+use Rattle.slices.specs.Amounts.{Placed, amounts_at}
 use Rattle.words.specs.Layout.{read, word}
-use Rattle.words.specs.Format.{archive-rows}
+use Rattle.words.specs.Format.{archive_rows}
 use Rattle.words.specs.Places.{row_at}
 use Rattle.records.specs.declared.amounts.Moved.{Moved}
-use Rattle.calls.specs.Calls.{without, removal-loss, remove-overruns}
-use Rattle.records.specs.Columns.{leave-out}
+use Rattle.calls.specs.Calls.{without, removal_loss, remove_overruns}
+use Rattle.records.specs.Columns.{leave_out}
 use Rattle.records.specs.Amounts.{shares}
 
 -- The number of the record at a place.
@@ -16,21 +16,21 @@ abbrev pub number_at : List ℕ → ℕ → ℕ
 number_at w k = (row_at w k).trial.number
 
 -- The joint counts of the trial at a place with the others.
-abbrev pub removal-shares : List ℕ → ℕ → List ℕ
-removal-shares w k = shares (without (read w) (number_at w k)) (row_at w k).trial (leave-out k (read w).rows)
+abbrev pub removal_shares : List ℕ → ℕ → List ℕ
+removal_shares w k = shares (without (read w) (number_at w k)) (row_at w k).trial (leave_out k (read w).rows)
 
 -- A removal's amounts, of the record at place k: the loss, whether row 13 lets it pass, and its joint counts with the
 -- others, said by the places of those that need not be 0.
 pub record RemoveAmounts (w : List ℕ) (k : ℕ) (places counts : List ℕ) (m : Moved) : Type 0 where
-  pub lost : m.amount ≡ removal-loss (read w) (number_at w k)
-  pub judged : m.fits ≡ not (remove-overruns (read w) (number_at w k))
-  pub each : Sparse (word w 0 - 1) (removal-shares w k) places counts m.places
+  pub lost : m.amount ≡ removal_loss (read w) (number_at w k)
+  pub judged : m.fits ≡ not (remove_overruns (read w) (number_at w k))
+  pub each : Sparse (word w 0 - 1) (removal_shares w k) places counts m.places
 
 -- What storing a removal asks.
 pub record RemoveReady (w : List ℕ) (k loss : ℕ) (places counts : List ℕ) : Type 0 where
-  pub passes : archive-rows w 0 ≡ 0
+  pub passes : archive_rows w 0 ≡ 0
   pub inside : k < word w 0
-  pub lost : loss ≡ removal-loss (read w) (number_at w k)
+  pub lost : loss ≡ removal_loss (read w) (number_at w k)
   pub whole : loss ≤ word w 5
   pub placed : Placed (word w 0 - 1) places counts
-  pub each : amounts-at (word w 0 - 1) places counts ≡ removal-shares w k
+  pub each : amounts_at (word w 0 - 1) places counts ≡ removal_shares w k

@@ -3,8 +3,8 @@
 ghost use Rattle.std.specs.Prelude.{◌≡◌, ◌++◌, ◌≤◌, ◌<◌, length};
 ghost use Rattle.slices.specs.Choices.{pick};
 ghost use Rattle.words.specs.Layout.{word, layout, read, behind};
-ghost use Rattle.words.specs.Format.{guard, archive-rows};
-ghost use Rattle.calls.specs.Calls.{remove-overruns, removed};
+ghost use Rattle.words.specs.Format.{guard, archive_rows};
+ghost use Rattle.calls.specs.Calls.{remove_overruns, removed};
 ghost use Rattle.calls.specs.Lent.{remove};
 ghost use Rattle.records.specs.Fronts.{unfronted};
 ghost use Rattle.removal.specs.Removing.{number_at, RemoveAmounts, RemoveReady};
@@ -16,7 +16,7 @@ use words::{box_of, find, record_at, reference_of, refusal};
 // The loss of the trial at place k, its joint counts with the others, said by the places of those that need not be 0, and
 // whether the total and all contributions stay from 0 to the box (row 13).
 fn raised(w: &[u64], k: usize, places: &mut [u16], counts: &mut [u64]) -> Moved
-    requires { (archive-rows w.now 0 ≡ 0) × (k < word w.now 0) × (512 ≤ length places.old) × (512 ≤ length counts.old) }
+    requires { (archive_rows w.now 0 ≡ 0) × (k < word w.now 0) × (512 ≤ length places.old) × (512 ≤ length counts.old) }
     ensures { RemoveAmounts w.now k places.new counts.new result }
 {
     let n = w[0] as usize;
@@ -55,9 +55,9 @@ fn store(w: &mut [u64], k: usize, loss: u64, places: &[u16], counts: &[u64])
 
 // Row 13, or the removal of the record at place k.
 fn take_out(w: &mut [u64], k: usize) -> u64
-    requires { (archive-rows w.old 0 ≡ 0) × (k < word w.old 0) }
-    ensures answer { result ≡ guard (remove-overruns (read w.old) (number_at w.old k)) 13 0 }
-    ensures words { w.new ≡ pick (remove-overruns (read w.old) (number_at w.old k)) w.old (layout (removed (read w.old) (number_at w.old k)) ++ behind w.old) }
+    requires { (archive_rows w.old 0 ≡ 0) × (k < word w.old 0) }
+    ensures answer { result ≡ guard (remove_overruns (read w.old) (number_at w.old k)) 13 0 }
+    ensures words { w.new ≡ pick (remove_overruns (read w.old) (number_at w.old k)) w.old (layout (removed (read w.old) (number_at w.old k)) ++ behind w.old) }
 {
     let mut places = [0u16; 512];
     let mut counts = [0u64; 512];

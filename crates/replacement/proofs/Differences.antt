@@ -9,21 +9,21 @@ use mir.Syntax.{w64}
 use mir.Val.{SFits, to_z, of_z}
 use mir.Facts.{to_z_pos, to_z-of_z}
 use Rattle.calls.specs.Replacement.{difference}
-use Rattle.calls.proofs.Replacement.{difference-bound}
+use Rattle.calls.proofs.Replacement.{difference_bound}
 
 small : (n : ℕ) → n ≤ 1152921504606846976 → n < 2 ^ 63
 small n h = omega arith
 
 -- What has to fit below the sign is at most the size of the number.
-mag-least : (z : ℤ) → mag z ≤ nat_abs z
-mag-least (pos n) = omega arith
-mag-least (negsuc n) = omega arith
+mag_least : (z : ℤ) → mag z ≤ nat_abs z
+mag_least (pos n) = omega arith
+mag_least (negsuc n) = omega arith
 
 module _ (a : ℕ) (h : a ≤ 1152921504606846976) where
   plain : (b : ℕ) → b ≤ 1152921504606846976 → mag (pos a -ℤ pos b) < 2 ^ 63
   unfolding difference
   plain b k =
-      small (mag (pos a -ℤ pos b)) (le_trans (mag-least (pos a -ℤ pos b)) (difference-bound a b 1152921504606846976 h k))
+      small (mag (pos a -ℤ pos b)) (le_trans (mag_least (pos a -ℤ pos b)) (difference_bound a b 1152921504606846976 h k))
 
   module _ (b : ℕ) (k : b ≤ 1152921504606846976) where
     casts : to_z w64 a -ℤ to_z w64 b ≡ pos a -ℤ pos b

@@ -4,11 +4,11 @@ ghost use Rattle.std.specs.Prelude.{◌≡◌, ◌≤◌, ◌<◌, ℤ};
 ghost use Rattle.hypervolume.specs.Sorted.{Small};
 ghost use Rattle.words.specs.Archive.{point};
 ghost use Rattle.words.specs.Layout.{word};
-ghost use Rattle.words.specs.Format.{archive-rows};
+ghost use Rattle.words.specs.Format.{archive_rows};
 ghost use Rattle.words.specs.Places.{as_row, row_at};
-ghost use Rattle.calls.specs.Lent.{trial-of};
-ghost use Rattle.calls.specs.Replacement.{difference, replace-effect};
-ghost use Rattle.replacement.specs.Others.{gain-but};
+ghost use Rattle.calls.specs.Lent.{trial_of};
+ghost use Rattle.calls.specs.Replacement.{difference, replace_effect};
+ghost use Rattle.replacement.specs.Others.{gain_but};
 
 use ask::count_joints;
 use calls::Change;
@@ -25,8 +25,8 @@ fn difference(a: u64, b: u64) -> i64
 
 // What a point gains over the records but the one at place i.
 fn gain_but(w: &[u64], i: usize, p: Point) -> u64
-    requires { (archive-rows w.now 0 ≡ 0) × (i < word w.now 0) × Small p.at }
-    ensures { result ≡ gain-but w.now i p.at }
+    requires { (archive_rows w.now 0 ≡ 0) × (i < word w.now 0) × Small p.at }
+    ensures { result ≡ gain_but w.now i p.at }
 {
     let mut places = [0u16; 512];
     let mut counts = [0u64; 512];
@@ -36,8 +36,8 @@ fn gain_but(w: &[u64], i: usize, p: Point) -> u64
 
 // What a point would change in place of the one at i.
 fn change_at(w: &[u64], i: usize, p: Point) -> i64
-    requires { (archive-rows w.now 0 ≡ 0) × (i < word w.now 0) × Small p.at }
-    ensures { result ≡ difference (gain-but w.now i p.at) (gain-but w.now i (point (row_at w.now i).trial)) }
+    requires { (archive_rows w.now 0 ≡ 0) × (i < word w.now 0) × Small p.at }
+    ensures { result ≡ difference (gain_but w.now i p.at) (gain_but w.now i (point (row_at w.now i).trial)) }
 {
     let after = gain_but(w, i, p);
     let own = record_at(w, i);
@@ -47,8 +47,8 @@ fn change_at(w: &[u64], i: usize, p: Point) -> i64
 
 // Rows 9 and 6.
 fn replace_in(w: &[u64], number: u64, row: Row) -> Change
-    requires { archive-rows w.now 0 ≡ 0 }
-    ensures { result ≡ replace-effect w.now number (as_row row).trial }
+    requires { archive_rows w.now 0 ≡ 0 }
+    ensures { result ≡ replace_effect w.now number (as_row row).trial }
 {
     let n = w[0] as usize;
     let i = find(w, number);
@@ -64,7 +64,7 @@ fn replace_in(w: &[u64], number: u64, row: Row) -> Change
 
 // Replace-effect (number, point): the total afterwards less the total before.
 pub fn replace_effect(w: &[u64], number: u64, x: u64, y: u64, z: u64) -> Change
-    ensures { result ≡ replace-effect w.now number (trial-of 0 x y z) }
+    ensures { result ≡ replace_effect w.now number (trial_of 0 x y z) }
 {
     let refused = refusal(w);
     if refused != 0 {

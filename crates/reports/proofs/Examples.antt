@@ -6,23 +6,23 @@ use lib.ListN.{replicate, length-replicate}
 use Rattle.slices.specs.Choices.{both, pick, either}
 use Rattle.hypervolume.specs.Cells.{holds, dominates, sum, cells, count}
 use Rattle.hypervolume.specs.Counts.{cover, joint, gain}
-use Rattle.hypervolume.specs.Front.{smaller-somewhere, beats, beaten, unbeaten, front}
-use Rattle.text.specs.Fields.{is_digit, decimal, number, field, field-from}
+use Rattle.hypervolume.specs.Front.{smaller_somewhere, beats, beaten, unbeaten, front}
+use Rattle.text.specs.Fields.{is_digit, decimal, number, field, field_from}
 use Rattle.text.specs.Lines.{four, line}
 use Rattle.text.specs.Justified.{digits, justified, line_of}
 use Rattle.words.specs.Archive.{Archive, trials, points, ascends, before}
 use Rattle.words.specs.Layout.{extent}
-use Rattle.words.specs.Format.{guard, within, each, shape-allowed, number-allowed, coordinates-allowed, held}
-use Rattle.words.proofs.Reading.{read-layout}
-use Rattle.calls.specs.Calls.{empty, place, insert-gain, joint-with, lowered, inserted, admission-rows}
-use Rattle.calls.specs.Lent.{start-rows}
-use Rattle.card.specs.Card.{shape_on, trial_on, line-count, lines_from, lines}
-use Rattle.card.specs.Verdict.{archive, in-turn, judge-further, judge, answer-of, words_of, carried-out}
+use Rattle.words.specs.Format.{guard, within, each, shape_allowed, number_allowed, coordinates_allowed, held}
+use Rattle.words.proofs.Reading.{read_layout}
+use Rattle.calls.specs.Calls.{empty, place, insert_gain, joint_with, lowered, inserted, admission_rows}
+use Rattle.calls.specs.Lent.{start_rows}
+use Rattle.card.specs.Card.{shape_on, trial_on, line_count, lines_from, lines}
+use Rattle.card.specs.Verdict.{archive, in_turn, judge_further, judge, answer_of, words_of, carried_out}
 use Rattle.card.proofs.Judging.{loads}
 use Rattle.printing.specs.Texts.{lines_of}
 use Rattle.printing.specs.Printed.{shown, loaded, printed}
-use Rattle.reports.specs.Report.{report-line, head-line, record-line, report-text}
-use Rattle.reports.specs.Example.{example-card, example-report}
+use Rattle.reports.specs.Report.{report_line, head_line, record_line, report_text}
+use Rattle.reports.specs.Example.{example_card, example_report}
 
 -- The archive of the card.
 example : Archive
@@ -39,31 +39,31 @@ example =
           ∷ [];
     }
 
-judged-example : judge 2568 (lines example-card) ≡ archive example
-unfolding judge judge-further in-turn start-rows shape_on trial_on lines lines_from line-count line four field-from field
-    number decimal pick is_digit line_of justified digits example-card example
-    empty place insert-gain joint-with lowered inserted admission-rows guard within each shape-allowed number-allowed
-    coordinates-allowed held extent trials points either ascends before cover joint gain front unbeaten
-    beaten beats smaller-somewhere both holds dominates sum cells count
-judged-example = refl
+judged_example : judge 2568 (lines example_card) ≡ archive example
+unfolding judge judge_further in_turn start_rows shape_on trial_on lines lines_from line_count line four field_from field
+    number decimal pick is_digit line_of justified digits example_card example
+    empty place insert_gain joint_with lowered inserted admission_rows guard within each shape_allowed number_allowed
+    coordinates_allowed held extent trials points either ascends before cover joint gain front unbeaten
+    beaten beats smaller_somewhere both holds dominates sum cells count
+judged_example = refl
 
-report-example : report-text example ≡ example-report
-unfolding report-text head-line lines_of record-line report-line justified digits pick example example-report
-report-example = refl
+report_example : report_text example ≡ example_report
+unfolding report_text head_line lines_of record_line report_line justified digits pick example example_report
+report_example = refl
 
-loaded-example : loaded example-card ≡ carried-out (replicate 2568 0) (archive example)
+loaded_example : loaded example_card ≡ carried_out (replicate 2568 0) (archive example)
 unfolding loaded extent
-loaded-example =
-    loads (replicate 2568 0) example-card
-    ∙ ap (λ n. carried-out (replicate 2568 0) (judge n (lines example-card))) (length-replicate {A = ℕ} 2568 0)
-    ∙ ap (carried-out (replicate 2568 0)) judged-example
+loaded_example =
+    loads (replicate 2568 0) example_card
+    ∙ ap (λ n. carried_out (replicate 2568 0) (judge n (lines example_card))) (length-replicate {A = ℕ} 2568 0)
+    ∙ ap (carried_out (replicate 2568 0)) judged_example
 
 -- The verdict's archive is what is shown.
-shown-archive : (before : List ℕ) (a : Archive)
-    → shown report-text (carried-out before (archive a)).answer.refusal (carried-out before (archive a)) ≡ report-text a
-unfolding shown carried-out answer-of words_of
-shown-archive before a = ap report-text (read-layout a _)
+shown_archive : (before : List ℕ) (a : Archive)
+    → shown report_text (carried_out before (archive a)).answer.refusal (carried_out before (archive a)) ≡ report_text a
+unfolding shown carried_out answer_of words_of
+shown_archive before a = ap report_text (read_layout a _)
 
-pub example-printed : printed report-text example-card ≡ example-report
+pub example_printed : printed report_text example_card ≡ example_report
 unfolding printed
-example-printed = rw loaded-example (shown-archive (replicate 2568 0) example) ∙ report-example
+example_printed = rw loaded_example (shown_archive (replicate 2568 0) example) ∙ report_example

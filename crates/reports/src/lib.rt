@@ -1,7 +1,7 @@
 // Reports: the call, and what the report program prints.
 ghost use Rattle.std.specs.Prelude.{◌≡◌};
 ghost use Rattle.printing.specs.Printed.{PrintRoom, PrintsRead};
-ghost use Rattle.reports.specs.Report.{report-text, report, reported};
+ghost use Rattle.reports.specs.Report.{report_text, report, reported};
 
 use calls::Answer;
 
@@ -17,7 +17,7 @@ pub fn report(w: &[u64], out: &mut [u8]) -> Answer
 // card, and answers the length.
 pub fn print(input: &[u8], read: usize, out: &mut [u8]) -> usize
     requires { PrintRoom 53 input.now read out.old }
-    ensures { PrintsRead report-text input.now read out.old result out.new }
+    ensures { PrintsRead report_text input.now read out.old result out.new }
 {
     printing::print(input, read, out, 0, 20)
 }

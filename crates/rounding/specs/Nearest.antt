@@ -4,13 +4,13 @@ use Rattle.std.specs.Prelude.{ℕ, ◌+◌, ◌-◌, ◌*◌, ◌/◌, ◌%◌, 
 use Rattle.slices.specs.Choices.{pick}
 
 -- "The even number" of k and the number behind it.
-unfoldable pub even-of : ℕ → ℕ
-even-of k = pick (eqb (k % 2) 0) k (k + 1)
+unfoldable pub even_of : ℕ → ℕ
+even_of k = pick (eqb (k % 2) 0) k (k + 1)
 
 -- "Rounded to the nearest", from the quotient q and the rest r: q where the rest is less than half of d, the number
 -- behind it where the rest is more than half; at half, "a tie", the even one of the two.
 unfoldable pub rounded : ℕ → ℕ → ℕ → ℕ
-rounded q r d = pick (ltb (2 * r) d) q (pick (ltb d (2 * r)) (q + 1) (even-of q))
+rounded q r d = pick (ltb (2 * r) d) q (pick (ltb d (2 * r)) (q + 1) (even_of q))
 
 unfoldable pub nearest : ℕ → ℕ → ℕ
 nearest n d = rounded (n / d) (n % d) d
@@ -22,7 +22,7 @@ distance m n = m - n + (n - m)
 -- a is as near to n divided by d as a whole number can be: a × d is at most half of d from n; at half, a is even.
 pub record IsNearest (n d a : ℕ) : Type 0 where
   pub near : 2 * distance (a * d) n ≤ d
-  pub tie-even : 2 * distance (a * d) n ≡ d → a % 2 ≡ 0
+  pub tie_even : 2 * distance (a * d) n ≡ d → a % 2 ≡ 0
 
 -- `nearest` is so and nothing else is; a whole quotient is kept, and more rounds to no less.
 pub record RoundsToNearest : Type 0 where

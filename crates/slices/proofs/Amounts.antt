@@ -7,7 +7,7 @@ use native.Mathlib.Omega.{arith}
 use lib.ListN.{length, get_or, set, replicate}
 use Rattle.slices.specs.Choices.{either}
 use Rattle.slices.specs.Amounts.{moved, some_pair}
-use Rattle.slices.proofs.Choices.{either-false, neither}
+use Rattle.slices.proofs.Choices.{either_false, neither}
 
 pub length_moved : (op : ℕ → ℕ → ℕ) (vs ms : List ℕ) → length ms ≡ length vs → length (moved op vs ms) ≡ length vs
 unfolding moved
@@ -24,53 +24,53 @@ moved_at op (v ∷ vs) (m ∷ ms) (suc i) e l =
     moved_at op vs ms i (let f : length ms ≡ length vs = omega arith in f) (omega arith)
 
 -- One amount set is one value moved.
-pub moved-set : (op : ℕ → ℕ → ℕ) (vs ms : List ℕ) (i m : ℕ) → moved op vs (set ms i m) ≡ set (moved op vs ms) i (op (get_or vs i 0) m)
+pub moved_set : (op : ℕ → ℕ → ℕ) (vs ms : List ℕ) (i m : ℕ) → moved op vs (set ms i m) ≡ set (moved op vs ms) i (op (get_or vs i 0) m)
 unfolding moved
-moved-set op [] ms i m = refl
-moved-set op (v ∷ vs) [] i m = refl
-moved-set op (v ∷ vs) (a ∷ ms) zero m = refl
-moved-set op (v ∷ vs) (a ∷ ms) (suc i) m = ap (λ l. op v a ∷ l) (moved-set op vs ms i m)
+moved_set op [] ms i m = refl
+moved_set op (v ∷ vs) [] i m = refl
+moved_set op (v ∷ vs) (a ∷ ms) zero m = refl
+moved_set op (v ∷ vs) (a ∷ ms) (suc i) m = ap (λ l. op v a ∷ l) (moved_set op vs ms i m)
 
-pub moved-zeros : (op : ℕ → ℕ → ℕ) (vs : List ℕ) → ((v : ℕ) → op v 0 ≡ v) → moved op vs (replicate (length vs) 0) ≡ vs
+pub moved_zeros : (op : ℕ → ℕ → ℕ) (vs : List ℕ) → ((v : ℕ) → op v 0 ≡ v) → moved op vs (replicate (length vs) 0) ≡ vs
 unfolding moved
-moved-zeros op [] still = refl
-moved-zeros op (v ∷ vs) still = ap₂ (λ h t. h ∷ t) (still v) (moved-zeros op vs still)
+moved_zeros op [] still = refl
+moved_zeros op (v ∷ vs) still = ap₂ (λ h t. h ∷ t) (still v) (moved_zeros op vs still)
 
-either-last : (s : Bool) → either s true ≡ true
+either_last : (s : Bool) → either s true ≡ true
 unfolding either
-either-last true = refl
-either-last false = refl
+either_last true = refl
+either_last false = refl
 
 -- A pair that passes the test is found; where none passes, each fails it.
-pub some-pair-at : (test : ℕ → ℕ → Bool) (vs ms : List ℕ) (i : ℕ) → length ms ≡ length vs → i < length vs → test (get_or vs i 0) (get_or ms i 0) ≡ true → some_pair test vs ms ≡ true
+pub some_pair_at : (test : ℕ → ℕ → Bool) (vs ms : List ℕ) (i : ℕ) → length ms ≡ length vs → i < length vs → test (get_or vs i 0) (get_or ms i 0) ≡ true → some_pair test vs ms ≡ true
 unfolding some_pair either
-some-pair-at test [] ms i e l t = absurd (let no' : ⊥ = omega arith in no')
-some-pair-at test (v ∷ vs) [] i e l t = absurd (let no' : ⊥ = omega arith in no')
-some-pair-at test (v ∷ vs) (m ∷ ms) zero e l t = rw t
-some-pair-at test (v ∷ vs) (m ∷ ms) (suc i) e l t =
-    let rest : some_pair test vs ms ≡ true = some-pair-at test vs ms i (let f : length ms ≡ length vs = omega arith in f) (omega arith) t in
-    rw rest (either-last (test v m))
+some_pair_at test [] ms i e l t = absurd (let no' : ⊥ = omega arith in no')
+some_pair_at test (v ∷ vs) [] i e l t = absurd (let no' : ⊥ = omega arith in no')
+some_pair_at test (v ∷ vs) (m ∷ ms) zero e l t = rw t
+some_pair_at test (v ∷ vs) (m ∷ ms) (suc i) e l t =
+    let rest : some_pair test vs ms ≡ true = some_pair_at test vs ms i (let f : length ms ≡ length vs = omega arith in f) (omega arith) t in
+    rw rest (either_last (test v m))
 
-pub no-pair-at : (test : ℕ → ℕ → Bool) (vs ms : List ℕ) (i : ℕ) → length ms ≡ length vs → i < length vs → some_pair test vs ms ≡ false → test (get_or vs i 0) (get_or ms i 0) ≡ false
+pub no_pair_at : (test : ℕ → ℕ → Bool) (vs ms : List ℕ) (i : ℕ) → length ms ≡ length vs → i < length vs → some_pair test vs ms ≡ false → test (get_or vs i 0) (get_or ms i 0) ≡ false
 unfolding some_pair
-no-pair-at test [] ms i e l f = absurd (let no' : ⊥ = omega arith in no')
-no-pair-at test (v ∷ vs) [] i e l f = absurd (let no' : ⊥ = omega arith in no')
-no-pair-at test (v ∷ vs) (m ∷ ms) zero e l f = (either-false (test v m) (some_pair test vs ms) f).0
-no-pair-at test (v ∷ vs) (m ∷ ms) (suc i) e l f =
-    no-pair-at test vs ms i (let g : length ms ≡ length vs = omega arith in g) (omega arith) (either-false (test v m) (some_pair test vs ms) f).1
+no_pair_at test [] ms i e l f = absurd (let no' : ⊥ = omega arith in no')
+no_pair_at test (v ∷ vs) [] i e l f = absurd (let no' : ⊥ = omega arith in no')
+no_pair_at test (v ∷ vs) (m ∷ ms) zero e l f = (either_false (test v m) (some_pair test vs ms) f).0
+no_pair_at test (v ∷ vs) (m ∷ ms) (suc i) e l f =
+    no_pair_at test vs ms i (let g : length ms ≡ length vs = omega arith in g) (omega arith) (either_false (test v m) (some_pair test vs ms) f).1
 
 -- No pair passes with one amount set, where that one does not, and with all amounts 0.
-pub no-pair-set : (test : ℕ → ℕ → Bool) (vs ms : List ℕ) (i m : ℕ) → some_pair test vs ms ≡ false → test (get_or vs i 0) m ≡ false → some_pair test vs (set ms i m) ≡ false
+pub no_pair_set : (test : ℕ → ℕ → Bool) (vs ms : List ℕ) (i m : ℕ) → some_pair test vs ms ≡ false → test (get_or vs i 0) m ≡ false → some_pair test vs (set ms i m) ≡ false
 unfolding some_pair
-no-pair-set test [] ms i m f t = refl
-no-pair-set test (v ∷ vs) [] i m f t = refl
-no-pair-set test (v ∷ vs) (a ∷ ms) zero m f t = neither (test v m) (some_pair test vs ms) t (either-false (test v a) (some_pair test vs ms) f).1
-no-pair-set test (v ∷ vs) (a ∷ ms) (suc i) m f t =
-    let parts = either-false (test v a) (some_pair test vs ms) f in
-    neither (test v a) (some_pair test vs (set ms i m)) parts.0 (no-pair-set test vs ms i m parts.1 t)
+no_pair_set test [] ms i m f t = refl
+no_pair_set test (v ∷ vs) [] i m f t = refl
+no_pair_set test (v ∷ vs) (a ∷ ms) zero m f t = neither (test v m) (some_pair test vs ms) t (either_false (test v a) (some_pair test vs ms) f).1
+no_pair_set test (v ∷ vs) (a ∷ ms) (suc i) m f t =
+    let parts = either_false (test v a) (some_pair test vs ms) f in
+    neither (test v a) (some_pair test vs (set ms i m)) parts.0 (no_pair_set test vs ms i m parts.1 t)
 
-pub no-pair-zeros : (test : ℕ → ℕ → Bool) (vs : List ℕ) → ((i : ℕ) → test (get_or vs i 0) 0 ≡ false) → some_pair test vs (replicate (length vs) 0) ≡ false
+pub no_pair_zeros : (test : ℕ → ℕ → Bool) (vs : List ℕ) → ((i : ℕ) → test (get_or vs i 0) 0 ≡ false) → some_pair test vs (replicate (length vs) 0) ≡ false
 unfolding some_pair
-no-pair-zeros test [] still = refl
-no-pair-zeros test (v ∷ vs) still =
-    neither (test v 0) (some_pair test vs (replicate (length vs) 0)) (still 0) (no-pair-zeros test vs (λ i. still (suc i)))
+no_pair_zeros test [] still = refl
+no_pair_zeros test (v ∷ vs) still =
+    neither (test v 0) (some_pair test vs (replicate (length vs) 0)) (still 0) (no_pair_zeros test vs (λ i. still (suc i)))

@@ -17,8 +17,8 @@ pub record Due (all l places numbers : List ℕ) : Type 0 where
   pub right : (k : ℕ) → k < length places → get_or numbers k 0 ≡ get_or all (get_or places k 0) 0
   pub every : (j : ℕ) → j < length all → (get_or l j 0 ≡ get_or all j 0) ⊎ Stands places (length places) j
 
-due-rest : {all l places numbers : List ℕ} {p v : ℕ} → Due all l (p ∷ places) (v ∷ numbers) → Due all (set l p v) places numbers
-due-rest {all} {l} {places} {numbers} {p} {v} h =
+due_rest : {all l places numbers : List ℕ} {p v : ℕ} → Due all l (p ∷ places) (v ∷ numbers) → Due all (set l p v) places numbers
+due_rest {all} {l} {places} {numbers} {p} {v} h =
     record {
       long = length-set l p v ∙ h.long;
       many = omega (arith, h.many);
@@ -41,10 +41,10 @@ due-rest {all} {l} {places} {numbers} {p} {v} h =
     every j (no d) (inl e) = inl (get_or-set_other l p j v 0 d ∙ e)
     every j (no d) (inr s) = inr (later j d s.k s.within s.here)
 
-pub due-spread : (all l places numbers : List ℕ) → Due all l places numbers → all ≡ spread l places numbers
+pub due_spread : (all l places numbers : List ℕ) → Due all l places numbers → all ≡ spread l places numbers
 unfolding spread
-due-spread all l [] numbers h =
+due_spread all l [] numbers h =
     ext_get_or 0 all l (sym h.long)
     (λ j m. ⊎_elim (λ e. sym e) (λ s. absurd (let no' : ⊥ = omega (arith, s.within) in no')) (h.every j m))
-due-spread all l (p ∷ places) [] h = absurd (let no' : ⊥ = omega (arith, h.many) in no')
-due-spread all l (p ∷ places) (v ∷ numbers) h = due-spread all (set l p v) places numbers (due-rest h)
+due_spread all l (p ∷ places) [] h = absurd (let no' : ⊥ = omega (arith, h.many) in no')
+due_spread all l (p ∷ places) (v ∷ numbers) h = due_spread all (set l p v) places numbers (due_rest h)

@@ -6,7 +6,7 @@ use native.Mathlib.Omega.{arith}
 use lib.ListN.{length, take, drop, set, get_or, replicate, get_or-replicate, length-drop, length-replicate}
 use lib.Seq.{length-take-le, get_or-take, get_or-drop}
 use Rattle.slices.specs.Put.{put}
-use Rattle.slices.proofs.Loops.{Written, written_none, written-more, written_behind, written-end, Filled, filled_none, filled_more, filled-before, filled-end}
+use Rattle.slices.proofs.Loops.{Written, written_none, written_more, written_behind, written_end, Filled, filled_none, filled_more, filled_before, filled_end}
 
 pub record Clearing (old : List ℕ) (at n i : ℕ) (now : List ℕ) : Type 0 where
   pub done : Written old at (replicate n 0) i now
@@ -14,8 +14,8 @@ pub record Clearing (old : List ℕ) (at n i : ℕ) (now : List ℕ) : Type 0 wh
   pub room : at + n ≤ length old
   pub long : length now ≡ length old
 
-pub clearing-none : (old : List ℕ) (at n : ℕ) → at + n ≤ length old → Clearing old at n 0 old
-clearing-none old at n room =
+pub clearing_none : (old : List ℕ) (at n : ℕ) → at + n ≤ length old → Clearing old at n 0 old
+clearing_none old at n room =
     record {
       done = written_none old at (replicate n 0) (omega (arith, length-replicate {A = ℕ} n 0));
       part = omega arith;
@@ -24,18 +24,18 @@ clearing-none old at n room =
     }
 
 module _ {old : List ℕ} {at n i : ℕ} {now : List ℕ} (h : Clearing old at n i now) where
-  pub clearing-more : i < n → Clearing old at n (i + 1) (set now (at + i) 0)
-  clearing-more l =
-      let done : Written old at (replicate n 0) (i + 1) (set now (at + i) 0) = written-more h.done 0 (omega (arith, length-replicate {A = ℕ} n 0)) (sym (get_or-replicate n i 0 0 l)) in
+  pub clearing_more : i < n → Clearing old at n (i + 1) (set now (at + i) 0)
+  clearing_more l =
+      let done : Written old at (replicate n 0) (i + 1) (set now (at + i) 0) = written_more h.done 0 (omega (arith, length-replicate {A = ℕ} n 0)) (sym (get_or-replicate n i 0 0 l)) in
       record { done = done; part = omega arith; room = h.room; long = done.long }
 
-  pub clearing-end : n ≤ i → now ≡ put old at (replicate n 0)
-  clearing-end l = written-end h.done (omega (arith, length-replicate {A = ℕ} n 0))
+  pub clearing_end : n ≤ i → now ≡ put old at (replicate n 0)
+  clearing_end l = written_end h.done (omega (arith, length-replicate {A = ℕ} n 0))
 
 -- n words of the list from a place on, and one of them.
 module _ (old : List ℕ) (from n : ℕ) (room : from + n ≤ length old) where
-  pub part-long : length (take n (drop from old)) ≡ n
-  part-long = length-take-le n (drop from old) (omega (arith, length-drop from old))
+  pub part_long : length (take n (drop from old)) ≡ n
+  part_long = length-take-le n (drop from old) (omega (arith, length-drop from old))
 
   part_at : (i : ℕ) → i < n → get_or (take n (drop from old)) i 0 ≡ get_or old (from + i) 0
   part_at i l = get_or-take n (drop from old) i 0 l ∙ get_or-drop from old i 0
@@ -46,29 +46,29 @@ pub record Lowering (old : List ℕ) (at n by i : ℕ) (now : List ℕ) : Type 0
   pub room : at + n + by ≤ length old
   pub long : length now ≡ length old
 
-pub lowering-none : (old : List ℕ) (at n by : ℕ) → at + n + by ≤ length old → Lowering old at n by 0 old
-lowering-none old at n by room =
+pub lowering_none : (old : List ℕ) (at n by : ℕ) → at + n + by ≤ length old → Lowering old at n by 0 old
+lowering_none old at n by room =
     record {
-      done = written_none old at (take n (drop (at + by) old)) (omega (arith, part-long old (at + by) n (omega arith)));
+      done = written_none old at (take n (drop (at + by) old)) (omega (arith, part_long old (at + by) n (omega arith)));
       part = omega arith;
       room = room;
       long = refl;
     }
 
 module _ {old : List ℕ} {at n by i : ℕ} {now : List ℕ} (h : Lowering old at n by i now) where
-  pub lowering-more : i < n → Lowering old at n by (i + 1) (set now (at + i) (get_or now (at + by + i) 0))
-  lowering-more l =
+  pub lowering_more : i < n → Lowering old at n by (i + 1) (set now (at + i) (get_or now (at + by + i) 0))
+  lowering_more l =
       let room : at + n + by ≤ length old = h.room in
-      let long : length (take n (drop (at + by) old)) ≡ n = part-long old (at + by) n (omega arith) in
+      let long : length (take n (drop (at + by) old)) ≡ n = part_long old (at + by) n (omega arith) in
       let value : get_or now (at + by + i) 0 ≡ get_or (take n (drop (at + by) old)) i 0 =
       written_behind h.done (at + by + i) (omega arith) ∙ sym (part_at old (at + by) n (omega arith) i l) in
-      let done : Written old at (take n (drop (at + by) old)) (i + 1) (set now (at + i) (get_or now (at + by + i) 0)) = written-more h.done _ (omega arith) value in
+      let done : Written old at (take n (drop (at + by) old)) (i + 1) (set now (at + i) (get_or now (at + by + i) 0)) = written_more h.done _ (omega arith) value in
       record { done = done; part = omega arith; room = room; long = done.long }
 
-  pub lowering-end : n ≤ i → now ≡ put old at (take n (drop (at + by) old))
-  lowering-end l =
+  pub lowering_end : n ≤ i → now ≡ put old at (take n (drop (at + by) old))
+  lowering_end l =
       let room : at + n + by ≤ length old = h.room in
-      written-end h.done (omega (arith, part-long old (at + by) n (omega arith)))
+      written_end h.done (omega (arith, part_long old (at + by) n (omega arith)))
 
 pub record Raising (old : List ℕ) (at n by left : ℕ) (now : List ℕ) : Type 0 where
   pub done : Filled old (at + by) (take n (drop at old)) left now
@@ -76,9 +76,9 @@ pub record Raising (old : List ℕ) (at n by left : ℕ) (now : List ℕ) : Type
   pub room : at + n + by ≤ length old
   pub long : length now ≡ length old
 
-pub raising-none : (old : List ℕ) (at n by : ℕ) → at + n + by ≤ length old → Raising old at n by n old
-raising-none old at n by room =
-    let long : length (take n (drop at old)) ≡ n = part-long old at n (omega arith) in
+pub raising_none : (old : List ℕ) (at n by : ℕ) → at + n + by ≤ length old → Raising old at n by n old
+raising_none old at n by room =
+    let long : length (take n (drop at old)) ≡ n = part_long old at n (omega arith) in
     record {
       done = filled_none old (at + by) (take n (drop at old)) n (omega arith) (sym long);
       part = omega arith;
@@ -87,15 +87,15 @@ raising-none old at n by room =
     }
 
 module _ {old : List ℕ} {at n by left : ℕ} {now : List ℕ} (h : Raising old at n by left now) where
-  pub raising-more : 0 < left → Raising old at n by (left - 1) (set now (at + by + (left - 1)) (get_or now (at + (left - 1)) 0))
-  raising-more l =
+  pub raising_more : 0 < left → Raising old at n by (left - 1) (set now (at + by + (left - 1)) (get_or now (at + (left - 1)) 0))
+  raising_more l =
       let room : at + n + by ≤ length old = h.room in
       let part : left ≤ n = h.part in
       let value : get_or now (at + (left - 1)) 0 ≡ get_or (take n (drop at old)) (left - 1) 0 =
-      filled-before h.done (at + (left - 1)) (omega arith) ∙ sym (part_at old at n (omega arith) (left - 1) (omega arith)) in
+      filled_before h.done (at + (left - 1)) (omega arith) ∙ sym (part_at old at n (omega arith) (left - 1) (omega arith)) in
       let done : Filled old (at + by) (take n (drop at old)) (left - 1) (set now (at + by + (left - 1)) (get_or now (at + (left - 1)) 0)) =
       filled_more h.done (left - 1) _ (omega arith) value in
       record { done = done; part = omega arith; room = room; long = done.long }
 
-  pub raising-end : left ≤ 0 → now ≡ put old (at + by) (take n (drop at old))
-  raising-end l = filled-end h.done (omega arith)
+  pub raising_end : left ≤ 0 → now ≡ put old (at + by) (take n (drop at old))
+  raising_end l = filled_end h.done (omega arith)

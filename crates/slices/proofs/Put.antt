@@ -9,9 +9,9 @@ use lib.ListN.{length, take, drop, set, get_or, length-append, length-take, leng
 use lib.Seq.{take_all, take-nil, length-take-le, drop-cons, drop-drop, drop_at, take_at, take-take, set_at, set_split, get_or-take, get_or-drop, get_or-append-add, take-suc, append_snoc}
 use Rattle.slices.specs.Put.{put}
 
-pub put-none : (l : List ℕ) (at : ℕ) → put l at [] ≡ l
+pub put_none : (l : List ℕ) (at : ℕ) → put l at [] ≡ l
 unfolding put
-put-none l at = rw add-zero (take-append-drop at l)
+put_none l at = rw add-zero (take-append-drop at l)
 
 -- A store is a word put.
 pub put_one : (l : List ℕ) (at v : ℕ) → at < length l → set l at v ≡ put l at (v ∷ [])
@@ -19,49 +19,49 @@ unfolding put
 put_one l at v h = rw add-one (set_split l at v h)
 
 module _ (l : List ℕ) (at : ℕ) (new : List ℕ) (room : at + length new ≤ length l) where
-  head-long : length (take at l) ≡ at
-  head-long = length-take-le at l (omega arith)
+  head_long : length (take at l) ≡ at
+  head_long = length-take-le at l (omega arith)
 
   front_long : length (take at l ++ new) ≡ at + length new
-  front_long = length-append (take at l) new ∙ ap (λ n. n + length new) head-long
+  front_long = length-append (take at l) new ∙ ap (λ n. n + length new) head_long
 
-  pub length-put : length (put l at new) ≡ length l
+  pub length_put : length (put l at new) ≡ length l
   unfolding put
-  length-put = simp (length-append, length-take, length-drop) (omega arith)
+  length_put = simp (length-append, length-take, length-drop) (omega arith)
 
   pub take_put : take at (put l at new) ≡ take at l
   unfolding put
-  take_put = take_at (take at l) (new ++ drop (at + length new) l) at head-long
+  take_put = take_at (take at l) (new ++ drop (at + length new) l) at head_long
 
   flat : put l at new ≡ (take at l ++ new) ++ drop (at + length new) l
   unfolding put
   flat = sym (append_assoc (take at l) new (drop (at + length new) l))
 
-  pub take-put-all : take (at + length new) (put l at new) ≡ take at l ++ new
-  take-put-all = rw flat (take_at (take at l ++ new) (drop (at + length new) l) (at + length new) front_long)
+  pub take_put_all : take (at + length new) (put l at new) ≡ take at l ++ new
+  take_put_all = rw flat (take_at (take at l ++ new) (drop (at + length new) l) (at + length new) front_long)
 
-  pub drop-put : drop at (put l at new) ≡ new ++ drop (at + length new) l
+  pub drop_put : drop at (put l at new) ≡ new ++ drop (at + length new) l
   unfolding put
-  drop-put = drop_at (take at l) (new ++ drop (at + length new) l) at head-long
+  drop_put = drop_at (take at l) (new ++ drop (at + length new) l) at head_long
 
-  pub drop-put-all : drop (at + length new) (put l at new) ≡ drop (at + length new) l
-  drop-put-all = rw flat (drop_at (take at l ++ new) (drop (at + length new) l) (at + length new) front_long)
+  pub drop_put_all : drop (at + length new) (put l at new) ≡ drop (at + length new) l
+  drop_put_all = rw flat (drop_at (take at l ++ new) (drop (at + length new) l) (at + length new) front_long)
 
   -- what stands before the part, in it and behind it
-  pub put-before : (k : ℕ) → k < at → get_or (put l at new) k 0 ≡ get_or l k 0
+  pub put_before : (k : ℕ) → k < at → get_or (put l at new) k 0 ≡ get_or l k 0
   unfolding put
-  put-before k h =
-      get_or-append (take at l) (new ++ drop (at + length new) l) 0 k (omega (arith, head-long)) ∙ get_or-take at l k 0 h
+  put_before k h =
+      get_or-append (take at l) (new ++ drop (at + length new) l) 0 k (omega (arith, head_long)) ∙ get_or-take at l k 0 h
 
-  pub put-inside : (k : ℕ) → k < length new → get_or (put l at new) (at + k) 0 ≡ get_or new k 0
+  pub put_inside : (k : ℕ) → k < length new → get_or (put l at new) (at + k) 0 ≡ get_or new k 0
   unfolding put
-  put-inside k h =
-      ap (λ i. get_or (put l at new) i 0) (ap (λ n. n + k) (sym head-long))
+  put_inside k h =
+      ap (λ i. get_or (put l at new) i 0) (ap (λ n. n + k) (sym head_long))
       ∙ get_or-append-add (take at l) (new ++ drop (at + length new) l) k 0
       ∙ get_or-append new (drop (at + length new) l) 0 k h
 
-  pub put-behind : (k : ℕ) → at + length new ≤ k → get_or (put l at new) k 0 ≡ get_or l k 0
-  put-behind k h =
+  pub put_behind : (k : ℕ) → at + length new ≤ k → get_or (put l at new) k 0 ≡ get_or l k 0
+  put_behind k h =
       let place : k ≡ length (take at l ++ new) + (k - (at + length new)) = omega (arith, front_long) in
       let back : at + length new + (k - (at + length new)) ≡ k = omega arith in
       ap₂ (λ m i. get_or m i 0) flat place
@@ -70,25 +70,25 @@ module _ (l : List ℕ) (at : ℕ) (new : List ℕ) (room : at + length new ≤ 
       ∙ ap (λ i. get_or l i 0) back
 
 -- One word more behind the part.
-put-longer : (l : List ℕ) (at : ℕ) (new : List ℕ) (v : ℕ) → (take at l ++ new) ++ (v ∷ drop (suc (at + length new)) l) ≡ put l at (new ++ (v ∷ []))
+put_longer : (l : List ℕ) (at : ℕ) (new : List ℕ) (v : ℕ) → (take at l ++ new) ++ (v ∷ drop (suc (at + length new)) l) ≡ put l at (new ++ (v ∷ []))
 unfolding put
-put-longer l at new v =
+put_longer l at new v =
     let longer : at + length (new ++ (v ∷ [])) ≡ suc (at + length new) = omega (arith, length-append new (v ∷ [])) in
     rw longer (append_assoc (take at l) new _ ∙ ap (λ m. take at l ++ m) (sym (append_assoc new (v ∷ []) _)))
 
-pub put-more : (l : List ℕ) (at : ℕ) (new : List ℕ) (v : ℕ) → at + length new < length l
+pub put_more : (l : List ℕ) (at : ℕ) (new : List ℕ) (v : ℕ) → at + length new < length l
     → set (put l at new) (at + length new) v ≡ put l at (new ++ (v ∷ []))
-put-more l at new v h =
+put_more l at new v h =
     ap (λ m. set m (at + length new) v)
     (flat l at new (omega arith) ∙ ap (λ m. (take at l ++ new) ++ m) (drop-cons l (at + length new) 0 h))
     ∙ set_at (take at l ++ new) (get_or l (at + length new) 0) (drop (suc (at + length new)) l) v (at + length new) (front_long l at new (omega arith))
-    ∙ put-longer l at new v
+    ∙ put_longer l at new v
 
 -- One word more before the part.
-pub put-sooner : (l : List ℕ) (at : ℕ) (new : List ℕ) (v : ℕ) → at < length l
+pub put_sooner : (l : List ℕ) (at : ℕ) (new : List ℕ) (v : ℕ) → at < length l
     → set (put l (suc at) new) at v ≡ put l at (v ∷ new)
 unfolding put
-put-sooner l at new v h =
+put_sooner l at new v h =
     let further : suc at + length new ≡ at + length (v ∷ new) = omega arith in
     ap (λ m. set (m ++ (new ++ drop (suc at + length new) l)) at v) (take-suc l at 0 h)
     ∙ ap (λ m. set m at v) (append_snoc (take at l) (get_or l at 0) (new ++ drop (suc at + length new) l))
@@ -98,12 +98,12 @@ put-sooner l at new v h =
 -- A part put, and another right behind it or right before it: one part.
 pub put_then : (l : List ℕ) (at : ℕ) (new more : List ℕ) → at + length new ≤ length l
     → put (put l at new) (at + length new) more ≡ put l at (new ++ more)
-put_then l at new more room = go (take-put-all l at new room) behind
+put_then l at new more room = go (take_put_all l at new room) behind
   where
     behind : drop (at + length new + length more) (put l at new) ≡ drop (at + length (new ++ more)) l
     behind =
         sym (drop-drop (length more) (at + length new) (put l at new))
-        ∙ ap (drop (length more)) (drop-put-all l at new room)
+        ∙ ap (drop (length more)) (drop_put_all l at new room)
         ∙ drop-drop (length more) (at + length new) l
         ∙ ap (λ k. drop k l) (let e : at + length new + length more ≡ at + length (new ++ more) = omega (arith, length-append new more) in e)
 
@@ -112,9 +112,9 @@ put_then l at new more room = go (take-put-all l at new room) behind
         → put (put l at new) (at + length new) more ≡ put l at (new ++ more)
     go e f = unfold put in (ap₂ (λ a b. a ++ (more ++ b)) e f ∙ rw (append_assoc, append_assoc))
 
-pub put-ahead : (l : List ℕ) (at : ℕ) (new more : List ℕ) → at + length more + length new ≤ length l
+pub put_ahead : (l : List ℕ) (at : ℕ) (new more : List ℕ) → at + length more + length new ≤ length l
     → put (put l (at + length more) new) at more ≡ put l at (more ++ new)
-put-ahead l at new more room = go before behind
+put_ahead l at new more room = go before behind
   where
     before : take at (put l (at + length more) new) ≡ take at l
     before =
@@ -124,7 +124,7 @@ put-ahead l at new more room = go before behind
 
     behind : drop (at + length more) (put l (at + length more) new) ≡ new ++ drop (at + length (more ++ new)) l
     behind =
-        drop-put l (at + length more) new room
+        drop_put l (at + length more) new room
         ∙ ap (λ k. new ++ drop k l) (let e : at + length more + length new ≡ at + length (more ++ new) = omega (arith, length-append more new) in e)
 
     go : take at (put l (at + length more) new) ≡ take at l
@@ -133,15 +133,15 @@ put-ahead l at new more room = go before behind
     go e f = unfold put in (ap₂ (λ a b. a ++ (more ++ b)) e f ∙ rw append_assoc)
 
 -- A part put over another that it covers.
-pub put-over : (l : List ℕ) (at : ℕ) (new more : List ℕ) → at + length new ≤ length l → length new ≤ length more
+pub put_over : (l : List ℕ) (at : ℕ) (new more : List ℕ) → at + length new ≤ length l → length new ≤ length more
     → put (put l at new) at more ≡ put l at more
-put-over l at new more room covers = go (take_put l at new room) behind
+put_over l at new more room covers = go (take_put l at new room) behind
   where
     behind : drop (at + length more) (put l at new) ≡ drop (at + length more) l
     behind =
         ap (λ k. drop k (put l at new)) (let e : at + length more ≡ at + length new + (length more - length new) = omega arith in e)
         ∙ sym (drop-drop (length more - length new) (at + length new) (put l at new))
-        ∙ ap (drop (length more - length new)) (drop-put-all l at new room)
+        ∙ ap (drop (length more - length new)) (drop_put_all l at new room)
         ∙ drop-drop (length more - length new) (at + length new) l
         ∙ ap (λ k. drop k l) (let e : at + length new + (length more - length new) ≡ at + length more = omega arith in e)
 
@@ -150,9 +150,9 @@ put-over l at new more room covers = go (take_put l at new room) behind
     go e f = unfold put in (ap₂ (λ a b. a ++ (more ++ b)) e f)
 
 -- A part put over the front of another that is as long.
-pub put-front-over : (l : List ℕ) (at : ℕ) (new rest more : List ℕ) → at + length (new ++ rest) ≤ length l → length more ≡ length new
+pub put_front_over : (l : List ℕ) (at : ℕ) (new rest more : List ℕ) → at + length (new ++ rest) ≤ length l → length more ≡ length new
     → put (put l at (new ++ rest)) at more ≡ put l at (more ++ rest)
-put-front-over l at new rest more room same = go (take_put l at (new ++ rest) room) behind
+put_front_over l at new rest more room same = go (take_put l at (new ++ rest) room) behind
   where
     all : at + length (new ++ rest) ≡ at + length (more ++ rest)
     all = omega (arith, length-append new rest, length-append more rest)
@@ -160,7 +160,7 @@ put-front-over l at new rest more room same = go (take_put l at (new ++ rest) ro
     behind : drop (at + length more) (put l at (new ++ rest)) ≡ rest ++ drop (at + length (more ++ rest)) l
     behind =
         sym (drop-drop (length more) at (put l at (new ++ rest)))
-        ∙ ap (drop (length more)) (drop-put l at (new ++ rest) room ∙ append_assoc new rest (drop (at + length (new ++ rest)) l))
+        ∙ ap (drop (length more)) (drop_put l at (new ++ rest) room ∙ append_assoc new rest (drop (at + length (new ++ rest)) l))
         ∙ drop_at new (rest ++ drop (at + length (new ++ rest)) l) (length more) (sym same)
         ∙ ap (λ k. rest ++ drop k l) all
 
@@ -185,14 +185,14 @@ unfolding put
 put_front l new = ap (λ k. new ++ drop k l) (zero-add (length new))
 
 -- The part of a list from a place on, as the code names it: with its length.
-pub rest-is : (at : ℕ) (l : List ℕ) → take (length l - at) (drop at l) ≡ drop at l
-rest-is at l = take_all (length l - at) (drop at l) (omega (arith, length-drop at l))
+pub rest_is : (at : ℕ) (l : List ℕ) → take (length l - at) (drop at l) ≡ drop at l
+rest_is at l = take_all (length l - at) (drop at l) (omega (arith, length-drop at l))
 
 -- The front of a list without its own front.
-pub drop-take : (from m : ℕ) (l : List ℕ) → drop from (take m l) ≡ take (m - from) (drop from l)
-drop-take zero m l = let all : m - 0 ≡ m = omega arith in rw all
-drop-take (suc from) zero l = let none : 0 - suc from ≡ 0 = omega arith in rw none
-drop-take (suc from) (suc m) [] = sym (take-nil (suc m - suc from))
-drop-take (suc from) (suc m) (w ∷ l) =
+pub drop_take : (from m : ℕ) (l : List ℕ) → drop from (take m l) ≡ take (m - from) (drop from l)
+drop_take zero m l = let all : m - 0 ≡ m = omega arith in rw all
+drop_take (suc from) zero l = let none : 0 - suc from ≡ 0 = omega arith in rw none
+drop_take (suc from) (suc m) [] = sym (take-nil (suc m - suc from))
+drop_take (suc from) (suc m) (w ∷ l) =
     let less : suc m - suc from ≡ m - from = omega arith in
-    drop-take from m l ∙ ap (λ k. take k (drop from l)) (sym less)
+    drop_take from m l ∙ ap (λ k. take k (drop from l)) (sym less)

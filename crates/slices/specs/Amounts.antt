@@ -26,5 +26,5 @@ pub record Placed (n : ℕ) (places counts : List ℕ) : Type 0 where
   pub rising : (k : ℕ) → suc k < length places → get_or places k 0 < get_or places (suc k) 0
 
 -- These amounts as a list.
-abbrev pub amounts-at : ℕ → List ℕ → List ℕ → List ℕ
-amounts-at n places counts = spread (replicate n 0) places counts
+abbrev pub amounts_at : ℕ → List ℕ → List ℕ → List ℕ
+amounts_at n places counts = spread (replicate n 0) places counts

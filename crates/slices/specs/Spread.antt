@@ -12,7 +12,7 @@ pub record Sparse (n : ℕ) (all places numbers : List ℕ) (m : ℕ) : Type 0 w
   pub few : m ≤ n
   pub inside : (k : ℕ) → k < m → get_or places k 0 < n
   pub rising : (k : ℕ) → suc k < m → get_or places k 0 < get_or places (suc k) 0
-  pub is-spread : all ≡ spread (replicate n 0) (take m places) (take m numbers)
+  pub is_spread : all ≡ spread (replicate n 0) (take m places) (take m numbers)
 
 -- j is one of the first m places.
 pub record Stands (places : List ℕ) (m j : ℕ) : Type 0 where

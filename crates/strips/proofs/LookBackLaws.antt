@@ -12,11 +12,11 @@ use borrow.Author.Tests.{leb-true, eqb-true}
 use Rattle.slices.specs.Choices.{both}
 use Rattle.slices.proofs.Choices.{both_true}
 use Rattle.line.specs.declared.column.Column.{Column}
-use Rattle.line.specs.Line.{y_of, index_of, flag-of, Flagged}
-use Rattle.line.specs.Column.{column-with, ColumnState}
+use Rattle.line.specs.Line.{y_of, index_of, flag_of, Flagged}
+use Rattle.line.specs.Column.{column_with, ColumnState}
 use Rattle.strips.specs.Strips.{Seen}
-use Rattle.line.proofs.ColumnLaws.{state-none, state-before, state-behind, column-with-owned}
-use Rattle.line.proofs.Flags.{flagged-at}
+use Rattle.line.proofs.ColumnLaws.{state_none, state_before, state_behind, column_with_owned}
+use Rattle.line.proofs.Flags.{flagged_at}
 
 -- The entries from k on have been looked at.
 pub record Looked (ry : ℕ) (line : List ℕ) (column : Column) (k : ℕ) : Type 0 where
@@ -25,18 +25,18 @@ pub record Looked (ry : ℕ) (line : List ℕ) (column : Column) (k : ℕ) : Typ
   pub state : ColumnState ry (drop k line) column
   pub owned : (n : ℕ) → ((k : ℕ) → index_of (get_or line k 0) < n) → column.owner < n
 
-pub looked-none : (ry : ℕ) (line : List ℕ) → Flagged [] line → Looked ry line (record { least = ry; owner = 0; second = ry }) (length line)
-looked-none ry line f =
+pub looked_none : (ry : ℕ) (line : List ℕ) → Flagged [] line → Looked ry line (record { least = ry; owner = 0; second = ry }) (length line)
+looked_none ry line f =
     record {
       flags = f;
       within = omega arith;
-      state = rw (drop-length line) (state-none ry);
+      state = rw (drop-length line) (state_none ry);
       owned = λ n h. omega (arith, h 0);
     }
 
-module _ {ry : ℕ} {line : List ℕ} {column : Column} {k : ℕ} (h : Looked ry line column k) (l : 0 < k) {y index : ℕ} (e : y ≡ y_of (get_or line (k - 1) 0)) (f : index ≡ index_of (get_or line (k - 1) 0)) {column' : Column} (g : column' ≡ column-with column y index) where
-  pub looked-more : Looked ry line column' (k - 1)
-  looked-more =
+module _ {ry : ℕ} {line : List ℕ} {column : Column} {k : ℕ} (h : Looked ry line column k) (l : 0 < k) {y index : ℕ} (e : y ≡ y_of (get_or line (k - 1) 0)) (f : index ≡ index_of (get_or line (k - 1) 0)) {column' : Column} (g : column' ≡ column_with column y index) where
+  pub looked_more : Looked ry line column' (k - 1)
+  looked_more =
       let back : suc (k - 1) ≡ k = omega arith in
       rw (g, e, f)
       (record {
@@ -44,25 +44,25 @@ module _ {ry : ℕ} {line : List ℕ} {column : Column} {k : ℕ} (h : Looked ry
         within = omega (arith, h.within);
         state =
             rw (drop-cons line (k - 1) 0 (omega (arith, h.within)), back)
-            (state-before h.state (get_or line (k - 1) 0));
+            (state_before h.state (get_or line (k - 1) 0));
         owned = λ n m.
-            column-with-owned column (y_of (get_or line (k - 1) 0)) (index_of (get_or line (k - 1) 0)) n (h.owned n m) (m (k - 1));
+            column_with_owned column (y_of (get_or line (k - 1) 0)) (index_of (get_or line (k - 1) 0)) n (h.owned n m) (m (k - 1));
       })
 
-  pub looked-stop : both (eqb (flag-of (get_or line (k - 1) 0)) 0) (leb column'.second (y_of (get_or line (k - 1) 0))) ≡ true → Seen ry line column'
-  looked-stop d =
-      let tests = both_true (eqb (flag-of (get_or line (k - 1) 0)) 0) (leb column'.second (y_of (get_or line (k - 1) 0))) d in
-      let clear : flag-of (get_or line (k - 1) 0) ≡ 0 = eqb-true (flag-of (get_or line (k - 1) 0)) 0 tests.0 in
+  pub looked_stop : both (eqb (flag_of (get_or line (k - 1) 0)) 0) (leb column'.second (y_of (get_or line (k - 1) 0))) ≡ true → Seen ry line column'
+  looked_stop d =
+      let tests = both_true (eqb (flag_of (get_or line (k - 1) 0)) 0) (leb column'.second (y_of (get_or line (k - 1) 0))) d in
+      let clear : flag_of (get_or line (k - 1) 0) ≡ 0 = eqb-true (flag_of (get_or line (k - 1) 0)) 0 tests.0 in
       let under : column'.second ≤ y_of (get_or line (k - 1) 0) = leb-true column'.second (y_of (get_or line (k - 1) 0)) tests.1 in
       record {
         state =
             rw (take-append-drop (k - 1) line) at
-            (state-behind looked-more.state (take (k - 1) line)
-            (λ j m. (flagged-at [] line h.flags (k - 1) (omega (arith, h.within))).clear clear j (omega arith)));
-        owned = looked-more.owned;
+            (state_behind looked_more.state (take (k - 1) line)
+            (λ j m. (flagged_at [] line h.flags (k - 1) (omega (arith, h.within))).clear clear j (omega arith)));
+        owned = looked_more.owned;
       }
 
-pub looked-all : {ry : ℕ} {line : List ℕ} {column : Column} {k : ℕ} → Looked ry line column k → k ≤ 0 → Seen ry line column
-looked-all {ry} {line} {column} {k} h l =
+pub looked_all : {ry : ℕ} {line : List ℕ} {column : Column} {k : ℕ} → Looked ry line column k → k ≤ 0 → Seen ry line column
+looked_all {ry} {line} {column} {k} h l =
     let none : k ≡ 0 = omega arith in
     record { state = rw none at h.state; owned = h.owned }

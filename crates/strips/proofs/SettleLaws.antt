@@ -11,115 +11,115 @@ use lib.Dec.{leb, eqb}
 use borrow.Author.Tests.{le-leb, lt-leb, ne_eqb}
 use Rattle.slices.specs.Choices.{both}
 use Rattle.hypervolume.specs.Cells.{holds, sum}
-use Rattle.hypervolume.proofs.Sums.{sum-none, sum-steady}
+use Rattle.hypervolume.proofs.Sums.{sum_none, sum_steady}
 use Rattle.line.specs.declared.column.Column.{Column}
 use Rattle.line.specs.Line.{low, low_by}
 use Rattle.line.specs.Column.{ColumnState}
 use Rattle.strips.specs.Strips.{alone, shared, Settling, Settled}
-use Rattle.line.proofs.Tally.{low-by-others}
+use Rattle.line.proofs.Tally.{low_by_others}
 use lib.ListN.{get_or, set}
 use lib.Seq.{set-get_or}
-use Rattle.line.proofs.ColumnLaws.{state-some}
+use Rattle.line.proofs.ColumnLaws.{state_some}
 
 -- A sum of ones over an interval of rows.
-pub sum-interval : (n a b : ℕ) (f : ℕ → ℕ) → b ≤ n → ((j : ℕ) → j < a → f j ≡ 0) → ((j : ℕ) → a ≤ j → j < b → f j ≡ 1) → ((j : ℕ) → b ≤ j → j < n → f j ≡ 0) → sum n f ≡ b - a
-sum-interval n a b f l before inside after = go (dec_le a b)
+pub sum_interval : (n a b : ℕ) (f : ℕ → ℕ) → b ≤ n → ((j : ℕ) → j < a → f j ≡ 0) → ((j : ℕ) → a ≤ j → j < b → f j ≡ 1) → ((j : ℕ) → b ≤ j → j < n → f j ≡ 0) → sum n f ≡ b - a
+sum_interval n a b f l before inside after = go (dec_le a b)
   where
     high : sum n f ≡ sum b f
     high =
-        let steady : sum n f ≡ sum b f + (n - b) * 0 = sum-steady f 0 b n l after in
+        let steady : sum n f ≡ sum b f + (n - b) * 0 = sum_steady f 0 b n l after in
         omega arith
 
     go : Dec (a ≤ b) → sum n f ≡ b - a
     go (yes p) =
-        let steady : sum b f ≡ sum a f + (b - a) * 1 = sum-steady f 1 a b p inside in
-        let nothing : sum a f ≡ 0 = sum-none a f before in
+        let steady : sum b f ≡ sum a f + (b - a) * 1 = sum_steady f 1 a b p inside in
+        let nothing : sum a f ≡ 0 = sum_none a f before in
         omega (arith, high)
     go (no p) =
-        let nothing : sum b f ≡ 0 = sum-none b f (λ j m. before j (omega arith)) in
+        let nothing : sum b f ≡ 0 = sum_none b f (λ j m. before j (omega arith)) in
         omega (arith, high)
 
 -- The rows of the column that p, from py on, dominates and no point passed does; and those that it dominates with
 -- the point of index t alone.
-unfoldable pub gain-row : List ℕ → ℕ → ℕ → ℕ
-gain-row passed py j = holds (both (leb py j) (eqb (low passed j) 0))
+unfoldable pub gain_row : List ℕ → ℕ → ℕ → ℕ
+gain_row passed py j = holds (both (leb py j) (eqb (low passed j) 0))
 
-unfoldable pub shared-row : ℕ → List ℕ → ℕ → ℕ → ℕ
-shared-row t passed py j = holds (both (leb py j) (both (eqb (low passed j) 1) (leb 1 (low_by t passed j))))
+unfoldable pub shared_row : ℕ → List ℕ → ℕ → ℕ → ℕ
+shared_row t passed py j = holds (both (leb py j) (both (eqb (low passed j) 1) (leb 1 (low_by t passed j))))
 
 row_before : (py j : ℕ) (b : Bool) → j < py → holds (both (leb py j) b) ≡ 0
 unfolding both holds
 row_before py j b l = rw (lt-leb py j l)
 
-row-closed : (a : Bool) → holds (both a false) ≡ 0
+row_closed : (a : Bool) → holds (both a false) ≡ 0
 unfolding both holds
-row-closed true = refl
-row-closed false = refl
+row_closed true = refl
+row_closed false = refl
 
 module _ {ry : ℕ} {passed : List ℕ} {column : Column} (h : ColumnState ry passed column) (py : ℕ) where
-  pub gain-row-sum : sum ry (gain-row passed py) ≡ alone column py
-  unfolding gain-row both holds
-  gain-row-sum = sum-interval ry py column.least (gain-row passed py) (omega (arith, h.ordered, h.top)) (λ j l. row_before py j (eqb (low passed j) 0) l) inside after
+  pub gain_row_sum : sum ry (gain_row passed py) ≡ alone column py
+  unfolding gain_row both holds
+  gain_row_sum = sum_interval ry py column.least (gain_row passed py) (omega (arith, h.ordered, h.top)) (λ j l. row_before py j (eqb (low passed j) 0) l) inside after
     where
-      inside : (j : ℕ) → py ≤ j → j < column.least → gain-row passed py j ≡ 1
+      inside : (j : ℕ) → py ≤ j → j < column.least → gain_row passed py j ≡ 1
       inside j l m = rw (le-leb py j l, h.none j m)
 
-      after : (j : ℕ) → column.least ≤ j → j < ry → gain-row passed py j ≡ 0
+      after : (j : ℕ) → column.least ≤ j → j < ry → gain_row passed py j ≡ 0
       after j l m =
-          let some : 1 ≤ low passed j = state-some h j l m in
-          rw (ne_eqb (low passed j) 0 (λ e. omega arith)) (row-closed (leb py j))
+          let some : 1 ≤ low passed j = state_some h j l m in
+          rw (ne_eqb (low passed j) 0 (λ e. omega arith)) (row_closed (leb py j))
 
   -- rows below `least` and rows from `second` on are shared with nobody
-  closed-low : (t j : ℕ) → j < column.least → shared-row t passed py j ≡ 0
-  unfolding shared-row both
-  closed-low t j l = rw (h.none j l) (row-closed (leb py j))
+  closed_low : (t j : ℕ) → j < column.least → shared_row t passed py j ≡ 0
+  unfolding shared_row both
+  closed_low t j l = rw (h.none j l) (row_closed (leb py j))
 
-  closed-high : (t j : ℕ) → column.second ≤ j → j < ry → shared-row t passed py j ≡ 0
-  unfolding shared-row both
-  closed-high t j l m =
+  closed_high : (t j : ℕ) → column.second ≤ j → j < ry → shared_row t passed py j ≡ 0
+  unfolding shared_row both
+  closed_high t j l m =
       let two : 2 ≤ low passed j = h.more j l m in
-      rw (ne_eqb (low passed j) 1 (λ e. omega arith)) (row-closed (leb py j))
+      rw (ne_eqb (low passed j) 1 (λ e. omega arith)) (row_closed (leb py j))
 
-  pub shared-row-sum : sum ry (shared-row column.owner passed py) ≡ shared column py
-  unfolding shared-row both holds
-  shared-row-sum =
-      sum-interval ry (max column.least py) column.second (shared-row column.owner passed py) h.top before inside (closed-high column.owner)
+  pub shared_row_sum : sum ry (shared_row column.owner passed py) ≡ shared column py
+  unfolding shared_row both holds
+  shared_row_sum =
+      sum_interval ry (max column.least py) column.second (shared_row column.owner passed py) h.top before inside (closed_high column.owner)
     where
-      before : (j : ℕ) → j < max column.least py → shared-row column.owner passed py j ≡ 0
+      before : (j : ℕ) → j < max column.least py → shared_row column.owner passed py j ≡ 0
       before j l = go (dec_le py j)
         where
-          go : Dec (py ≤ j) → shared-row column.owner passed py j ≡ 0
-          go (yes p) = closed-low column.owner j (omega arith)
+          go : Dec (py ≤ j) → shared_row column.owner passed py j ≡ 0
+          go (yes p) = closed_low column.owner j (omega arith)
           go (no p) = row_before py j (both (eqb (low passed j) 1) (leb 1 (low_by column.owner passed j))) (omega arith)
 
-      inside : (j : ℕ) → max column.least py ≤ j → j < column.second → shared-row column.owner passed py j ≡ 1
+      inside : (j : ℕ) → max column.least py ≤ j → j < column.second → shared_row column.owner passed py j ≡ 1
       inside j l m =
           let at_least : column.least ≤ j = omega arith in
           rw (le-leb py j (omega arith), h.one j at_least m, h.owned j at_least m)
 
-  pub shared-row-sum-other : (t : ℕ) → (t ≡ column.owner → ⊥) → sum ry (shared-row t passed py) ≡ 0
-  unfolding shared-row both holds
-  shared-row-sum-other t n = sum-none ry (shared-row t passed py) (λ j m. go j m (dec_le column.least j) (dec_le column.second j))
+  pub shared_row_sum_other : (t : ℕ) → (t ≡ column.owner → ⊥) → sum ry (shared_row t passed py) ≡ 0
+  unfolding shared_row both holds
+  shared_row_sum_other t n = sum_none ry (shared_row t passed py) (λ j m. go j m (dec_le column.least j) (dec_le column.second j))
     where
-      go : (j : ℕ) → j < ry → Dec (column.least ≤ j) → Dec (column.second ≤ j) → shared-row t passed py j ≡ 0
-      go j m (no p) q = closed-low t j (omega arith)
-      go j m (yes p) (yes q) = closed-high t j q m
+      go : (j : ℕ) → j < ry → Dec (column.least ≤ j) → Dec (column.second ≤ j) → shared_row t passed py j ≡ 0
+      go j m (no p) q = closed_low t j (omega arith)
+      go j m (yes p) (yes q) = closed_high t j q m
       go j m (yes p) (no q) =
-          let others : low_by t passed j + low_by column.owner passed j ≤ low passed j = low-by-others t column.owner passed j n in
+          let others : low_by t passed j + low_by column.owner passed j ≤ low passed j = low_by_others t column.owner passed j n in
           let inner : j < column.second = omega arith in
           let nobody : low_by t passed j ≡ 0 = omega (arith, h.one j p inner, h.owned j p inner) in
-          rw (h.one j p inner, nobody) (row-closed (leb py j))
+          rw (h.one j p inner, nobody) (row_closed (leb py j))
 
 -- Products of two and of three numbers up to 1,048,576 fit a word.
-pub two-fit : {a b : ℕ} → a ≤ 1048576 → b ≤ 1048576 → a * b ≤ 1099511627776
-two-fit p q = mul-le-mul p q
+pub two_fit : {a b : ℕ} → a ≤ 1048576 → b ≤ 1048576 → a * b ≤ 1099511627776
+two_fit p q = mul-le-mul p q
 
-pub three-fit : {a b c : ℕ} → a ≤ 1048576 → b ≤ 1048576 → c ≤ 1048576 → a * (b * c) ≤ 1152921504606846976
-three-fit p q r = mul-le-mul p (two-fit q r)
+pub three_fit : {a b c : ℕ} → a ≤ 1048576 → b ≤ 1048576 → c ≤ 1048576 → a * (b * c) ≤ 1152921504606846976
+three_fit p q r = mul-le-mul p (two_fit q r)
 
 -- A strip of no width.
-pub settled-none : (column : Column) (from to py height : ℕ) (out : List ℕ) → to ≤ from → Settled column from to py height out out 0
-settled-none column from to py height out l =
+pub settled_none : (column : Column) (from to py height : ℕ) (out : List ℕ) → to ≤ from → Settled column from to py height out out 0
+settled_none column from to py height out l =
     let none : to - from ≡ 0 = omega arith in
     record {
       gained = sym (rw none (zero-mul (alone column py)));
@@ -137,20 +137,20 @@ module _ {column : Column} {from to py height : ℕ} {out : List ℕ} (h : Settl
   width_small : to - from ≤ 1048576
   width_small = omega arith
 
-  pub settling-area : (to - from) * s < 2 ^ 64
-  settling-area = omega (arith, two-fit width_small depth_small)
+  pub settling_area : (to - from) * s < 2 ^ 64
+  settling_area = omega (arith, two_fit width_small depth_small)
 
-  pub settling-volume : height * ((to - from) * s) < 2 ^ 64
-  settling-volume = omega (arith, three-fit h.height-small width_small depth_small)
+  pub settling_volume : height * ((to - from) * s) < 2 ^ 64
+  settling_volume = omega (arith, three_fit h.height_small width_small depth_small)
 
-  pub settling-enough : height * ((to - from) * s) ≤ get_or out column.owner 0
-  settling-enough = rw e h.enough
+  pub settling_enough : height * ((to - from) * s) ≤ get_or out column.owner 0
+  settling_enough = rw e h.enough
 
   module _ {a : ℕ} (f : a ≡ alone column py) where
-    pub settling-gain : (to - from) * a < 2 ^ 64
-    settling-gain =
+    pub settling_gain : (to - from) * a < 2 ^ 64
+    settling_gain =
         let small : a ≤ 1048576 = rw f (omega arith) in
-        omega (arith, two-fit width_small small)
+        omega (arith, two_fit width_small small)
 
-    pub settled-some : Settled column from to py height out (set out column.owner (get_or out column.owner 0 - height * ((to - from) * s))) ((to - from) * a)
-    settled-some = record { gained = rw f; fallen = rw e }
+    pub settled_some : Settled column from to py height out (set out column.owner (get_or out column.owner 0 - height * ((to - from) * s))) ((to - from) * a)
+    settled_some = record { gained = rw f; fallen = rw e }

@@ -2,7 +2,7 @@
 // strip is settled by one product.
 ghost use Rattle.std.specs.Prelude.{[], ◌≡◌, leb, eqb};
 ghost use Rattle.slices.specs.Choices.{both};
-ghost use Rattle.line.specs.Line.{y_of, flag-of, Flagged};
+ghost use Rattle.line.specs.Line.{y_of, flag_of, Flagged};
 ghost use Rattle.strips.specs.Strips.{Seen, Settling, Settled, Crossing, Crossed};
 
 use hypervolume::number::{larger, less, smaller};
@@ -11,7 +11,7 @@ use line::{flag_of, index_of, x_of, y_of};
 
 // Whether no entry before this one changes the column.
 fn decides(entry: u64, column: Column) -> bool
-    ensures { result ≡ both (eqb (flag-of entry) 0) (leb column.second (y_of entry)) }
+    ensures { result ≡ both (eqb (flag_of entry) 0) (leb column.second (y_of entry)) }
 {
     if flag_of(entry) == 0 {
         column.second <= y_of(entry)

@@ -7,14 +7,14 @@ use native.Mathlib.Omega.{arith}
 use lib.ListN.{length, drop, get_or, length-append, length-drop, get_or-append}
 use lib.Seq.{get_or-append-add, get_or-drop, ext_get_or}
 
-pub getD-mapped : {A B : Type 0} (f : A → B) (d : A) (e : B) (l : List A) (j : ℕ) → j < length l → get_or (map f l) j e ≡ f (get_or l j d)
-getD-mapped f d e [] j m = absurd (let no' : ⊥ = omega arith in no')
-getD-mapped f d e (a ∷ l) zero m = refl
-getD-mapped f d e (a ∷ l) (suc j) m = getD-mapped f d e l j (omega arith)
+pub getD_mapped : {A B : Type 0} (f : A → B) (d : A) (e : B) (l : List A) (j : ℕ) → j < length l → get_or (map f l) j e ≡ f (get_or l j d)
+getD_mapped f d e [] j m = absurd (let no' : ⊥ = omega arith in no')
+getD_mapped f d e (a ∷ l) zero m = refl
+getD_mapped f d e (a ∷ l) (suc j) m = getD_mapped f d e l j (omega arith)
 
 -- A list that is `front` up to its length, and `old` from there on.
-pub front-then : (now front old : List ℕ) → length now ≡ length old → length front ≤ length old → ((j : ℕ) → j < length front → get_or now j 0 ≡ get_or front j 0) → ((j : ℕ) → length front ≤ j → get_or now j 0 ≡ get_or old j 0) → now ≡ front ++ drop (length front) old
-front-then now front old e f before after =
+pub front_then : (now front old : List ℕ) → length now ≡ length old → length front ≤ length old → ((j : ℕ) → j < length front → get_or now j 0 ≡ get_or front j 0) → ((j : ℕ) → length front ≤ j → get_or now j 0 ≡ get_or old j 0) → now ≡ front ++ drop (length front) old
+front_then now front old e f before after =
     ext_get_or 0 now (front ++ drop (length front) old)
     (omega (arith, length-append front (drop (length front) old), length-drop (length front) old))
     (λ j l. go j (dec_le (suc j) (length front)))

@@ -4,7 +4,7 @@ use Rattle.hypervolume.specs.Counts.{total, contributions}
 use Rattle.order.specs.Order.{sum_of}
 use Rattle.order.specs.Keys.{Taken}
 use Rattle.words.specs.Format.{within, each}
-use Rattle.sweep4.specs.Quadruples.{points-of}
+use Rattle.sweep4.specs.Quadruples.{points_of}
 
 -- Rows 17, 20 and 6 have passed.
 pub record Readable (coords : List ℕ) : Type 0 where
@@ -19,9 +19,9 @@ at_places points places = map (λ place. get_or points place []) places
 -- The points of the coordinates in ascending w, by their keys, under a reference that row 4 lets pass.
 pub record Taking (coords keys reference : List ℕ) (r₄ : ℕ) : Type 0 where
   pub readable : Readable coords
-  pub taken : Taken 3 (points-of coords) keys
-  pub reference-small : (axis : ℕ) → get_or reference axis 0 ≤ 32768
-  pub last-small : r₄ ≤ 32768
+  pub taken : Taken 3 (points_of coords) keys
+  pub reference_small : (axis : ℕ) → get_or reference axis 0 ≤ 32768
+  pub last_small : r₄ ≤ 32768
 
 -- The points of the first i keys stand at the places held, in some order; this is their total, and these are their
 -- contributions.

@@ -4,12 +4,12 @@ use Rattle.std.specs.Prelude.{ℕ, List, ◌∷◌, []}
 use Rattle.hypervolume.specs.Counts.{total, contributions}
 
 -- "A lent slice of four coordinates a point", as points.
-unfoldable pub points-of : List ℕ → List (List ℕ)
-points-of [] = []
-points-of (x ∷ []) = []
-points-of (x ∷ y ∷ []) = []
-points-of (x ∷ y ∷ z ∷ []) = []
-points-of (x ∷ y ∷ z ∷ w ∷ ns) = (x ∷ y ∷ z ∷ w ∷ []) ∷ points-of ns
+unfoldable pub points_of : List ℕ → List (List ℕ)
+points_of [] = []
+points_of (x ∷ []) = []
+points_of (x ∷ y ∷ []) = []
+points_of (x ∷ y ∷ z ∷ []) = []
+points_of (x ∷ y ∷ z ∷ w ∷ ns) = (x ∷ y ∷ z ∷ w ∷ []) ∷ points_of ns
 
 -- "Total, then contributions in input order."
 unfoldable pub counts_of : (reference : List ℕ) → List (List ℕ) → List ℕ

@@ -6,7 +6,7 @@ ghost use Rattle.slices.specs.Put.{put};
 ghost use Rattle.slices.specs.Spread.{spread};
 ghost use Rattle.words.specs.Format.{within, each};
 ghost use Rattle.order.specs.Keys.{Keyed};
-ghost use Rattle.sweep4.specs.Quadruples.{points-of, counts_of};
+ghost use Rattle.sweep4.specs.Quadruples.{points_of, counts_of};
 ghost use Rattle.sweep4.specs.Passing.{Readable, Taking, Swept, Counted, Placeable};
 
 use hypervolume::Point;
@@ -14,7 +14,7 @@ use hypervolume::Point;
 // The key of each point: its w, then its place.
 fn load_keys(coords: &[u64], keys: &mut [u32])
     requires { Readable coords.now × (length keys.old ≡ length coords.now / 4) }
-    ensures { Keyed 3 (points-of coords.now) keys.new }
+    ensures { Keyed 3 (points_of coords.now) keys.new }
 {
     let mut i = 0;
     while i < keys.len() {
@@ -26,7 +26,7 @@ fn load_keys(coords: &[u64], keys: &mut [u32])
 // The point at this place of the coordinates, seen along w.
 fn read_point(coords: &[u64], place: usize) -> Point
     requires { Readable coords.now × (place < length coords.now / 4) }
-    ensures { result.at ≡ take 3 (get_or (points-of coords.now) place []) }
+    ensures { result.at ≡ take 3 (get_or (points_of coords.now) place []) }
 {
     Point::new(
         coords[4 * place],
@@ -53,7 +53,7 @@ fn pass_all(
     whose: &mut [u64],
 ) -> u64
     requires { Taking coords.now keys.now reference.at rw × (length own.old ≡ 512) × (length whose.old ≡ 512) }
-    ensures { Swept (reference.at ++ (rw ∷ [])) (points-of coords.now) keys.now (length keys.now) own.new whose.new result }
+    ensures { Swept (reference.at ++ (rw ∷ [])) (points_of coords.now) keys.now (length keys.now) own.new whose.new result }
 {
     let mut points = [[0u32, 0, 0]; 512];
     let mut corners = [[0u32, 0, 0]; 512];
@@ -111,7 +111,7 @@ fn in_order(
     whose: &mut [u64],
 ) -> u64
     requires { Readable coords.now × (length keys.old ≡ length coords.now / 4) × (length ascending.old ≡ length coords.now / 4) × (each (within 1 32768) (reference.at ++ (rw ∷ [])) ≡ true) × (length own.old ≡ 512) × (length whose.old ≡ 512) }
-    ensures { Counted (reference.at ++ (rw ∷ [])) (points-of coords.now) own.new whose.new result }
+    ensures { Counted (reference.at ++ (rw ∷ [])) (points_of coords.now) own.new whose.new result }
 {
     load_keys(coords, keys);
     order::order(keys, ascending);
@@ -121,7 +121,7 @@ fn in_order(
 // The counts, for coordinates and a reference that no row turns down.
 pub fn count(coords: &[u64], reference: Point, rw: u32, out: &mut [u64])
     requires { Readable coords.now × (each (within 1 32768) (reference.at ++ (rw ∷ [])) ≡ true) × (length coords.now / 4 < length out.old) }
-    ensures { out.new ≡ put out.old 0 (counts_of (reference.at ++ (rw ∷ [])) (points-of coords.now)) }
+    ensures { out.new ≡ put out.old 0 (counts_of (reference.at ++ (rw ∷ [])) (points_of coords.now)) }
 {
     let n = coords.len() / 4;
     let mut keys = [0u32; 512];

@@ -8,8 +8,8 @@ use lib.ListN.{length, take, get_or, set, length-set, length-take, get_or-eq_def
 use lib.Seq.{get_or-set_same, get_or-set_other, get_or-take}
 use Rattle.hypervolume.specs.Sorted.{Small, Sorted}
 
-pub small-three : {p : List ℕ} {a b c : ℕ} → p ≡ a ∷ b ∷ c ∷ [] → a ≤ 1048576 → b ≤ 1048576 → c ≤ 1048576 → Small p
-small-three {p} {a} {b} {c} e la lb lc k = rw e (go k)
+pub small_three : {p : List ℕ} {a b c : ℕ} → p ≡ a ∷ b ∷ c ∷ [] → a ≤ 1048576 → b ≤ 1048576 → c ≤ 1048576 → Small p
+small_three {p} {a} {b} {c} e la lb lc k = rw e (go k)
   where
     go : (k : ℕ) → get_or (a ∷ b ∷ c ∷ []) k 0 ≤ 1048576
     go zero = la
@@ -66,7 +66,7 @@ filled_more {old} {points} {points'} {z} {i} {x} {y} {step} {p} h m lx ly s e f 
 
     small : (k : ℕ) → k < i + 1 → Dec (k < i) → Small (get_or points' k [])
     small k n (yes a) = rw (first k a) (h.small k a)
-    small k n (no a) = small-three (here k (omega arith)) lx ly (omega (arith, h.low, h.within, h.short))
+    small k n (no a) = small_three (here k (omega arith)) lx ly (omega (arith, h.low, h.within, h.short))
 
     last : (k : ℕ) → k < i + 1 → Dec (k < i) → get_or (get_or points' k []) 2 0 ≤ z + step
     last k n (yes a) = rw (first k a) (omega (arith, h.last k a))
@@ -77,8 +77,8 @@ filled_more {old} {points} {points'} {z} {i} {x} {y} {step} {p} h m lx ly s e f 
     up k n (no a) =
         rw (first k (omega arith), here (suc k) (omega arith)) (omega (arith, h.last k (omega arith)))
 
-pub filled-end : {old points : List (List ℕ)} {z i : ℕ} → Filled old points z i → length points ≤ i → Sorted points
-filled-end {old} {points} {z} {i} h m =
+pub filled_end : {old points : List (List ℕ)} {z i : ℕ} → Filled old points z i → length points ≤ i → Sorted points
+filled_end {old} {points} {z} {i} h m =
     record {
       few = omega (arith, h.alike, h.short);
       axes = λ k l. h.axes k (omega arith);
@@ -91,8 +91,8 @@ filled-end {old} {points} {z} {i} h m =
     small k (no a) b = rw (get_or-eq_default points [] {n = k} (omega arith)) (omega arith)
 
 -- The first n points.
-sorted-take : (n : ℕ) (points : List (List ℕ)) → Sorted points → Sorted (take n points)
-sorted-take n points h =
+sorted_take : (n : ℕ) (points : List (List ℕ)) → Sorted points → Sorted (take n points)
+sorted_take n points h =
     record {
       few = omega (arith, h.few, length-take n points);
       axes = λ k l. rw (here k (omega (arith, length-take n points))) (h.axes k (omega (arith, length-take n points)));
@@ -109,4 +109,4 @@ sorted-take n points h =
         rw (get_or-eq_default (take n points) [] {n = k} (omega (arith, length-take n points))) (omega arith)
 
 pub sorted_part : (n : ℕ) (points : List (List ℕ)) → n ≤ 12 → Sorted points → Sorted (take n points) × (length (take n points) ≤ 12)
-sorted_part n points l h = (sorted-take n points h, omega (arith, length-take n points))
+sorted_part n points l h = (sorted_take n points h, omega (arith, length-take n points))

@@ -7,5 +7,5 @@ use Rattle.figures.specs.Figures.{figures}
 -- Of two slices with the same words before the end of the last archive, whatever lies behind makes no difference. (Their
 -- lengths need no condition: a slice that is shorter has no words behind, so the two are then equal.)
 pub record FleetsBehind : Type 0 where
-  pub not-read : (number : ℕ) (v w : List ℕ) → take (extents number v) v ≡ take (extents number v) w
+  pub not_read : (number : ℕ) (v w : List ℕ) → take (extents number v) v ≡ take (extents number v) w
       → figures v number ≡ figures w number

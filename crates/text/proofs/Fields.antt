@@ -11,9 +11,9 @@ use borrow.Author.Tests.{leb-true, le-leb, eqb-true, eqb-false, ne_eqb}
 use Rattle.slices.specs.Choices.{pick}
 use Rattle.text.specs.Fields.{space, is_digit, decimal, number, field}
 
-pub digit-yes : (b : ℕ) → 48 ≤ b → b ≤ 57 → is_digit b ≡ true
+pub digit_yes : (b : ℕ) → 48 ≤ b → b ≤ 57 → is_digit b ≡ true
 unfolding is_digit
-digit-yes b low high = rw (le-leb 48 b low, le-leb b 57 high)
+digit_yes b low high = rw (le-leb 48 b low, le-leb b 57 high)
 
 -- What a digit is: the bounds, from the test.
 pub digit_low : (b : ℕ) → is_digit b ≡ true → 48 ≤ b
@@ -24,9 +24,9 @@ digit_low b e = go (leb 48 b) refl e
     go true e₁ e₂ = leb-true 48 b e₁
     go false e₁ e₂ = absurd (let z : ◌≡◌ {A = ℕ} 0 1 = cc in omega arith)
 
-pub digit-high : (b : ℕ) → is_digit b ≡ true → b ≤ 57
+pub digit_high : (b : ℕ) → is_digit b ≡ true → b ≤ 57
 unfolding is_digit
-digit-high b e = go (leb 48 b) e
+digit_high b e = go (leb 48 b) e
   where
     go : (t : Bool) → t && leb b 57 ≡ true → b ≤ 57
     go true e₂ = leb-true b 57 e₂
@@ -37,47 +37,47 @@ pub decimal_digit : (v b : ℕ) (bytes : List ℕ) → is_digit b ≡ true → d
 unfolding decimal pick
 decimal_digit v b bytes e = rw e
 
-pub decimal-stop : (v b : ℕ) (bytes : List ℕ) → is_digit b ≡ false → decimal v (b ∷ bytes) ≡ none
+pub decimal_stop : (v b : ℕ) (bytes : List ℕ) → is_digit b ≡ false → decimal v (b ∷ bytes) ≡ none
 unfolding decimal pick
-decimal-stop v b bytes e = rw e
+decimal_stop v b bytes e = rw e
 
 -- What a value says of the bytes.
-pub decimal-end : (v n : ℕ) → decimal v [] ≡ some n → v ≡ n
+pub decimal_end : (v n : ℕ) → decimal v [] ≡ some n → v ≡ n
 unfolding decimal
-decimal-end v n e = cc
+decimal_end v n e = cc
 
-pub decimal-begin : (v b : ℕ) (bytes : List ℕ) (n : ℕ) → decimal v (b ∷ bytes) ≡ some n → is_digit b ≡ true
-decimal-begin v b bytes n e = go (is_digit b) refl
+pub decimal_begin : (v b : ℕ) (bytes : List ℕ) (n : ℕ) → decimal v (b ∷ bytes) ≡ some n → is_digit b ≡ true
+decimal_begin v b bytes n e = go (is_digit b) refl
   where
     go : (t : Bool) → is_digit b ≡ t → is_digit b ≡ true
     go true d = d
-    go false d = absurd (let z : ◌≡◌ {A = ℕ} 0 1 = cc (decimal-stop v b bytes d) in omega arith)
+    go false d = absurd (let z : ◌≡◌ {A = ℕ} 0 1 = cc (decimal_stop v b bytes d) in omega arith)
 
-pub field-empty : field [] ≡ none
+pub field_empty : field [] ≡ none
 unfolding field
-field-empty = refl
+field_empty = refl
 
 -- A space in front changes nothing; any other byte begins the number.
-pub field-space : (bytes : List ℕ) → field (space ∷ bytes) ≡ field bytes
+pub field_space : (bytes : List ℕ) → field (space ∷ bytes) ≡ field bytes
 unfolding field pick
-field-space bytes = refl
+field_space bytes = refl
 
-pub field-number : (b : ℕ) (bytes : List ℕ) → (b ≡ space → ⊥) → field (b ∷ bytes) ≡ number (b ∷ bytes)
+pub field_number : (b : ℕ) (bytes : List ℕ) → (b ≡ space → ⊥) → field (b ∷ bytes) ≡ number (b ∷ bytes)
 unfolding field pick
-field-number b bytes ne = rw (ne_eqb b 32 ne)
+field_number b bytes ne = rw (ne_eqb b 32 ne)
 
-pub field-spaces : (k : ℕ) (bytes : List ℕ) → field (replicate k space ++ bytes) ≡ field bytes
-field-spaces zero bytes = refl
-field-spaces (suc k) bytes = field-space (replicate k space ++ bytes) ∙ field-spaces k bytes
+pub field_spaces : (k : ℕ) (bytes : List ℕ) → field (replicate k space ++ bytes) ≡ field bytes
+field_spaces zero bytes = refl
+field_spaces (suc k) bytes = field_space (replicate k space ++ bytes) ∙ field_spaces k bytes
 
 -- One digit behind digits.
-pub decimal-snoc : (v : ℕ) (bytes : List ℕ) (m b : ℕ) → decimal v bytes ≡ some m → is_digit b ≡ true
+pub decimal_snoc : (v : ℕ) (bytes : List ℕ) (m b : ℕ) → decimal v bytes ≡ some m → is_digit b ≡ true
     → decimal v (bytes ++ (b ∷ [])) ≡ some (m * 10 + (b - 48))
 unfolding decimal pick
-decimal-snoc v [] m b e d =
+decimal_snoc v [] m b e d =
     let same : v ≡ m = cc in
     rw (d, same)
-decimal-snoc v (c ∷ bytes) m b e d = go (is_digit c) e (λ e'. decimal-snoc (v * 10 + (c - 48)) bytes m b e' d)
+decimal_snoc v (c ∷ bytes) m b e d = go (is_digit c) e (λ e'. decimal_snoc (v * 10 + (c - 48)) bytes m b e' d)
   where
     go : (t : Bool) → pick t (decimal (v * 10 + (c - 48)) bytes) none ≡ some m
         → (decimal (v * 10 + (c - 48)) bytes ≡ some m → decimal (v * 10 + (c - 48)) (bytes ++ (b ∷ [])) ≡ some (m * 10 + (b - 48)))
@@ -86,22 +86,22 @@ decimal-snoc v (c ∷ bytes) m b e d = go (is_digit c) e (λ e'. decimal-snoc (v
     go false e₁ next = absurd (let z : ◌≡◌ {A = ℕ} 0 1 = cc in omega arith)
 
 -- A number is a field with no space in front.
-number-space : (bytes : List ℕ) → number (space ∷ bytes) ≡ none
+number_space : (bytes : List ℕ) → number (space ∷ bytes) ≡ none
 unfolding number decimal pick is_digit
-number-space [] = refl
-number-space (b ∷ bytes) = refl
+number_space [] = refl
+number_space (b ∷ bytes) = refl
 
-number-empty : number [] ≡ none
+number_empty : number [] ≡ none
 unfolding number
-number-empty = refl
+number_empty = refl
 
-pub field-of-number : (bytes : List ℕ) (n : ℕ) → number bytes ≡ some n → field bytes ≡ some n
-field-of-number [] n e = absurd (let z : ◌≡◌ {A = ℕ} 0 1 = cc number-empty in omega arith)
-field-of-number (b ∷ bytes) n e = go (eqb b space) refl
+pub field_of_number : (bytes : List ℕ) (n : ℕ) → number bytes ≡ some n → field bytes ≡ some n
+field_of_number [] n e = absurd (let z : ◌≡◌ {A = ℕ} 0 1 = cc number_empty in omega arith)
+field_of_number (b ∷ bytes) n e = go (eqb b space) refl
   where
     go : (t : Bool) → eqb b space ≡ t → field (b ∷ bytes) ≡ some n
     go true e₁ =
         let here : b ≡ space = eqb-true b space e₁ in
-        let gone : number (b ∷ bytes) ≡ none = rw here (number-space bytes) in
+        let gone : number (b ∷ bytes) ≡ none = rw here (number_space bytes) in
         absurd (let z : ◌≡◌ {A = ℕ} 0 1 = cc in omega arith)
-    go false e₁ = field-number b bytes (eqb-false b space e₁) ∙ e
+    go false e₁ = field_number b bytes (eqb-false b space e₁) ∙ e

@@ -35,8 +35,8 @@ field [] = none
 field (b ∷ bytes) = pick (eqb b space) (field bytes) (number (b ∷ bytes))
 
 -- The field of eight bytes that starts at a byte of a card, or of a line.
-unfoldable pub field-from : ℕ → List ℕ → Option ℕ
-field-from at bytes = field (take 8 (drop at bytes))
+unfoldable pub field_from : ℕ → List ℕ → Option ℕ
+field_from at bytes = field (take 8 (drop at bytes))
 
 -- What the reading of a field answers: its value, or that it is not of the form (on a card, row 15).
 abbrev pub value_of : Field → Option ℕ

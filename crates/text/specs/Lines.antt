@@ -3,7 +3,7 @@
 use Rattle.std.specs.Prelude.{ℕ, List, eqb, drop, get_or}
 use Rattle.std.proofs.Math.Option.{Option, none, some}
 use Rattle.slices.specs.Choices.{pick}
-use Rattle.text.specs.Fields.{field-from}
+use Rattle.text.specs.Fields.{field_from}
 use Rattle.text.specs.declared.Line.{Line}
 use Rattle.text.specs.declared.Line.TheVariants.{Values, Malformed}
 
@@ -31,12 +31,12 @@ four (some a) (some b) (some c) (some d) = some (record { first = a; second = b;
 unfoldable pub line : List ℕ → Option Numbers
 line bytes =
     pick (eqb (get_or bytes 32 0) newline)
-    (four (field-from 0 bytes) (field-from 8 bytes) (field-from 16 bytes) (field-from 24 bytes))
+    (four (field_from 0 bytes) (field_from 8 bytes) (field_from 16 bytes) (field_from 24 bytes))
     none
 
 -- The line that starts at a byte of a card.
-unfoldable pub line-from : ℕ → List ℕ → Option Numbers
-line-from at card = line (drop at card)
+unfoldable pub line_from : ℕ → List ℕ → Option Numbers
+line_from at card = line (drop at card)
 
 -- What the reading of a line answers: its four values, or that it is not of the form (on a card, row 15).
 abbrev pub numbers_of : Line → Option Numbers

@@ -3,8 +3,8 @@ ghost use Rattle.std.specs.Prelude.{◌≡◌, ◌+◌, ◌%◌, ◌≤◌, eqb,
 ghost use Rattle.std.proofs.Math.Seq.{slice};
 ghost use Rattle.slices.specs.Choices.{pick};
 ghost use Rattle.slices.specs.Put.{put};
-ghost use Rattle.text.specs.Fields.{space, digit, is_digit, decimal, number, field-from, value_of, Part};
-ghost use Rattle.text.specs.Lines.{four, line-from, numbers_of};
+ghost use Rattle.text.specs.Fields.{space, digit, is_digit, decimal, number, field_from, value_of, Part};
+ghost use Rattle.text.specs.Lines.{four, line_from, numbers_of};
 ghost use Rattle.text.specs.Justified.{justified, ColumnRoom};
 
 // What the reading of a field answers.
@@ -77,7 +77,7 @@ fn number(s: &[u8], at: usize, end: usize) -> Field
 // The field of eight bytes that starts at byte `at`.
 pub fn field_at(s: &[u8], at: usize) -> Field
     requires { at + 8 ≤ length s.now }
-    ensures { value_of result ≡ field-from at s.now }
+    ensures { value_of result ≡ field_from at s.now }
 {
     let end = at + 8;
     let mut i = at;
@@ -117,7 +117,7 @@ fn four(a: Field, b: Field, c: Field, d: Field) -> Line
 
 // The line that starts at byte `at`; a rest of fewer than 33 bytes is not of the form.
 pub fn line_at(s: &[u8], at: usize) -> Line
-    ensures { numbers_of result ≡ line-from at s.now }
+    ensures { numbers_of result ≡ line_from at s.now }
 {
     if s.len() < 33 {
         return Line::Malformed;

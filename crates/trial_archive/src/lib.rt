@@ -2,15 +2,15 @@
 // documents them for C.
 ghost use Rattle.std.specs.Prelude.{◌∷◌, [], ◌≡◌};
 ghost use Rattle.axes.specs.Rearranging.{rearrange};
-ghost use Rattle.calls.specs.Lent.{start, insert, remove, least, reduce, joint, gain-answer, share, audit, trial-of, shape_of, MeetsOutcome};
-ghost use Rattle.calls.specs.Grid.{insert-grid};
-ghost use Rattle.calls.specs.Replacement.{replace-effect};
+ghost use Rattle.calls.specs.Lent.{start, insert, remove, least, reduce, joint, gain_answer, share, audit, trial_of, shape_of, MeetsOutcome};
+ghost use Rattle.calls.specs.Grid.{insert_grid};
+ghost use Rattle.calls.specs.Replacement.{replace_effect};
 ghost use Rattle.card.specs.Card.{load};
 ghost use Rattle.card.specs.Check.{check};
 ghost use Rattle.figures.specs.Figures.{figures};
 ghost use Rattle.four.specs.Count4.{count4, counted4};
 ghost use Rattle.reports.specs.Report.{report, reported};
-ghost use Rattle.volume.specs.Volume.{volume, answer-of};
+ghost use Rattle.volume.specs.Volume.{volume, answer_of};
 ghost use Rattle.writing.specs.Written.{write, written};
 
 use calls::{Answer, Change, GridAnswer, LeastAnswer};
@@ -27,14 +27,14 @@ pub extern "C" fn ta_start(words: &mut [u64], rx: u64, ry: u64, rz: u64, capacit
 
 #[unsafe(no_mangle)]
 pub extern "C" fn ta_insert(words: &mut [u64], number: u64, x: u64, y: u64, z: u64) -> u64
-    ensures { (result ≡ (insert words.old (trial-of number x y z)).refusal) × (words.new ≡ (insert words.old (trial-of number x y z)).words) }
+    ensures { (result ≡ (insert words.old (trial_of number x y z)).refusal) × (words.new ≡ (insert words.old (trial_of number x y z)).words) }
 {
     insertion::insert(words, number, x, y, z)
 }
 
 #[unsafe(no_mangle)]
 pub extern "C" fn ta_insert_grid(words: &mut [u64], grid: &[u64]) -> GridAnswer
-    ensures { (result ≡ (insert-grid words.old grid.now).answer) × (words.new ≡ (insert-grid words.old grid.now).words) }
+    ensures { (result ≡ (insert_grid words.old grid.now).answer) × (words.new ≡ (insert_grid words.old grid.now).words) }
 {
     grid::insert_grid(words, grid)
 }
@@ -69,14 +69,14 @@ pub extern "C" fn ta_joint(words: &[u64], first: u64, second: u64) -> Answer
 
 #[unsafe(no_mangle)]
 pub extern "C" fn ta_gain(words: &[u64], x: u64, y: u64, z: u64) -> Answer
-    ensures { result ≡ gain-answer words.now (trial-of 0 x y z) }
+    ensures { result ≡ gain_answer words.now (trial_of 0 x y z) }
 {
     ask::gain(words, x, y, z)
 }
 
 #[unsafe(no_mangle)]
 pub extern "C" fn ta_replace_effect(words: &[u64], number: u64, x: u64, y: u64, z: u64) -> Change
-    ensures { result ≡ replace-effect words.now number (trial-of 0 x y z) }
+    ensures { result ≡ replace_effect words.now number (trial_of 0 x y z) }
 {
     replacement::replace_effect(words, number, x, y, z)
 }
@@ -125,7 +125,7 @@ pub extern "C" fn ta_card_write(words: &[u64], out: &mut [u8]) -> Answer
 
 #[unsafe(no_mangle)]
 pub extern "C" fn ta_volume(reference: Corner, points: &[f64]) -> VolumeAnswer
-    ensures { result ≡ answer-of (volume reference points.now) }
+    ensures { result ≡ answer_of (volume reference points.now) }
 {
     volume::volume_answer(reference, points)
 }

@@ -9,25 +9,25 @@ use borrow.Author.Tests.{lt-ltb, le-ltb, eq-eqb, ne_eqb}
 use Rattle.slices.specs.Choices.{both, pick}
 use Rattle.words.specs.Format.{guard, within, each}
 use Rattle.hypervolume.specs.Sorted.{Small}
-use Rattle.words.proofs.Passed.{each-bounds}
+use Rattle.words.proofs.Passed.{each_bounds}
 use Rattle.order.specs.Keys.{Keyed, Few}
 use Rattle.doubles.specs.Doubles.{number_of}
 use Rattle.volume.specs.declared.Corner.{Corner}
 use Rattle.volume.specs.declared.Volume.{Volume}
 use Rattle.volume.specs.declared.Volume.TheVariants.{Cells, Refused}
-use Rattle.volume.specs.Volume.{corner, points-of, volume-rows, figure-of, figure, volume-or, volume}
+use Rattle.volume.specs.Volume.{corner, points_of, volume_rows, figure_of, figure, volume_or, volume}
 use Rattle.volume.specs.Layering.{Readable, Loaded}
-use Rattle.volume.proofs.Reading.{points-many}
+use Rattle.volume.proofs.Reading.{points_many}
 
 module _ (r : Corner) (ds : List Float) where
-  pub row-17 : (length ds % 3 ≡ 0 → ⊥) → Refused 17 ≡ volume r ds
-  unfolding volume volume-rows volume-or guard
-  row-17 n = rw (ne_eqb (length ds % 3) 0 n)
+  pub row_17 : (length ds % 3 ≡ 0 → ⊥) → Refused 17 ≡ volume r ds
+  unfolding volume volume_rows volume_or guard
+  row_17 n = rw (ne_eqb (length ds % 3) 0 n)
 
   module _ (threes : length ds % 3 ≡ 0) where
-    pub row-20 : 512 < length ds / 3 → Refused 20 ≡ volume r ds
-    unfolding volume volume-rows volume-or guard
-    row-20 l = rw (eq-eqb (length ds % 3) 0 threes, lt-ltb 512 (length ds / 3) l)
+    pub row_20 : 512 < length ds / 3 → Refused 20 ≡ volume r ds
+    unfolding volume volume_rows volume_or guard
+    row_20 l = rw (eq-eqb (length ds % 3) 0 threes, lt-ltb 512 (length ds / 3) l)
 
     module _ (few : length ds / 3 ≤ 512) where
       pub readable : Readable ds
@@ -35,35 +35,35 @@ module _ (r : Corner) (ds : List Float) where
 
       -- p is the reference as it was read
       module _ {p : List ℕ} (here : p ≡ corner r) where
-        pub row-19 : each (within 1 1048576) p ≡ false → Refused 19 ≡ volume r ds
-        unfolding volume volume-rows volume-or guard both
-        row-19 e = rw (eq-eqb (length ds % 3) 0 threes, le-ltb 512 (length ds / 3) few, ← here, e)
+        pub row_19 : each (within 1 1048576) p ≡ false → Refused 19 ≡ volume r ds
+        unfolding volume volume_rows volume_or guard both
+        row_19 e = rw (eq-eqb (length ds % 3) 0 threes, le-ltb 512 (length ds / 3) few, ← here, e)
 
-        pub measured : each (within 1 1048576) p ≡ true → {v : Volume} → v ≡ pick (each (within 0 1048576) (map number_of ds)) (Cells (figure-of p (points-of ds))) (Refused 19) → v ≡ volume r ds
-        unfolding volume volume-rows volume-or guard both pick figure
+        pub measured : each (within 1 1048576) p ≡ true → {v : Volume} → v ≡ pick (each (within 0 1048576) (map number_of ds)) (Cells (figure_of p (points_of ds))) (Refused 19) → v ≡ volume r ds
+        unfolding volume volume_rows volume_or guard both pick figure
         measured e {v} f = f ∙ rw (eq-eqb (length ds % 3) 0 threes, le-ltb 512 (length ds / 3) few, ← here, e) (go (each (within 0 1048576) (map number_of ds)))
           where
-            go : (b : Bool) → pick b (Cells (figure-of p (points-of ds))) (Refused 19) ≡ volume-or (guard (not b) 19 0) (figure-of p (points-of ds))
+            go : (b : Bool) → pick b (Cells (figure_of p (points_of ds))) (Refused 19) ≡ volume_or (guard (not b) 19 0) (figure_of p (points_of ds))
             go true = refl
             go false = refl
 
-pub corner-small : (p : List ℕ) → each (within 1 1048576) p ≡ true → Small p
-corner-small p e axis = (each-bounds 1 1048576 p e axis).1
+pub corner_small : (p : List ℕ) → each (within 1 1048576) p ≡ true → Small p
+corner_small p e axis = (each_bounds 1 1048576 p e axis).1
 
 -- The points are refused, or measured.
-pub refused-points : (b : Bool) (v w : Volume) → b ≡ false → w ≡ pick b v w
+pub refused_points : (b : Bool) (v w : Volume) → b ≡ false → w ≡ pick b v w
 unfolding pick
-refused-points b v w e = rw e
+refused_points b v w e = rw e
 
-pub measured-points : (b : Bool) (u v w : Volume) → b ≡ true → u ≡ v → u ≡ pick b v w
+pub measured_points : (b : Bool) (u v w : Volume) → b ≡ true → u ≡ v → u ≡ pick b v w
 unfolding pick
-measured-points b u v w e f = rw e f
+measured_points b u v w e f = rw e f
 
-pub loaded-many : {ds : List Float} {points : List (List ℕ)} {keys : List ℕ} → Loaded ds points keys → length (take (length ds / 3) points) ≡ length ds / 3
-loaded-many {ds} l = ap length l.all ∙ points-many ds
+pub loaded_many : {ds : List Float} {points : List (List ℕ)} {keys : List ℕ} → Loaded ds points keys → length (take (length ds / 3) points) ≡ length ds / 3
+loaded_many {ds} l = ap length l.all ∙ points_many ds
 
-pub loaded-few : {ds : List Float} {points : List (List ℕ)} {keys : List ℕ} → Loaded ds points keys → Few (take (length ds / 3) points)
-loaded-few l = rw l.all l.few
+pub loaded_few : {ds : List Float} {points : List (List ℕ)} {keys : List ℕ} → Loaded ds points keys → Few (take (length ds / 3) points)
+loaded_few l = rw l.all l.few
 
-pub loaded-keyed : {ds : List Float} {points : List (List ℕ)} {keys : List ℕ} → Loaded ds points keys → Keyed 2 (take (length ds / 3) points) (take (length ds / 3) keys)
-loaded-keyed l = rw l.all l.keyed
+pub loaded_keyed : {ds : List Float} {points : List (List ℕ)} {keys : List ℕ} → Loaded ds points keys → Keyed 2 (take (length ds / 3) points) (take (length ds / 3) keys)
+loaded_keyed l = rw l.all l.keyed

@@ -3,8 +3,8 @@
 use Rattle.std.specs.Prelude.{ℕ, ◌-◌, ◌/◌, ◌%◌, ◌≤◌, min, ◌≡◌, List, ltb, length, take, get_or, Float}
 use Rattle.slices.specs.Choices.{pick}
 use Rattle.order.specs.Keys.{Keyed, Few}
-use Rattle.doubles.specs.Doubles.{with-layer}
-use Rattle.volume.specs.Volume.{points-of}
+use Rattle.doubles.specs.Doubles.{with_layer}
+use Rattle.volume.specs.Volume.{points_of}
 
 -- Rows 17 and 20 have passed.
 pub record Readable {A : Type 0} (ds : List A) : Type 0 where
@@ -13,14 +13,14 @@ pub record Readable {A : Type 0} (ds : List A) : Type 0 where
 
 -- The points read, and their keys.
 pub record Loaded (ds : List Float) (points : List (List ℕ)) (keys : List ℕ) : Type 0 where
-  pub all : take (length ds / 3) points ≡ points-of ds
-  pub keyed : Keyed 2 (points-of ds) (take (length ds / 3) keys)
-  pub few : Few (points-of ds)
+  pub all : take (length ds / 3) points ≡ points_of ds
+  pub keyed : Keyed 2 (points_of ds) (take (length ds / 3) keys)
+  pub few : Few (points_of ds)
 
 -- The z of the key at place i, or the reference's where that is lower or no key is left.
-unfoldable pub level-at : List ℕ → (i rz : ℕ) → ℕ
-level-at keys i rz = pick (ltb i (length keys)) (min (get_or keys i 0 / 512) rz) rz
+unfoldable pub level_at : List ℕ → (i rz : ℕ) → ℕ
+level_at keys i rz = pick (ltb i (length keys)) (min (get_or keys i 0 / 512) rz) rz
 
 -- The sum with the layer from z up to the next level, if that is another one.
-unfoldable pub layer-or : Float → (area z next : ℕ) → Float
-layer-or sum area z next = pick (ltb z next) (with-layer sum (record { area = area; height = next - z })) sum
+unfoldable pub layer_or : Float → (area z next : ℕ) → Float
+layer_or sum area z next = pick (ltb z next) (with_layer sum (record { area = area; height = next - z })) sum

@@ -7,9 +7,9 @@ ghost use Rattle.hypervolume.specs.Sorted.{Small};
 ghost use Rattle.words.specs.Format.{within, each};
 ghost use Rattle.order.specs.Keys.{Keyed, Few, Taken};
 ghost use Rattle.doubles.specs.Doubles.{number_of};
-ghost use Rattle.volume.specs.Volume.{corner, points-of, figure-of, volume, answer-of};
+ghost use Rattle.volume.specs.Volume.{corner, points_of, figure_of, volume, answer_of};
 ghost use Rattle.volume.specs.declared.Volume.TheVariants.{Cells, Refused};
-ghost use Rattle.volume.specs.Layering.{Readable, Loaded, level-at, layer-or};
+ghost use Rattle.volume.specs.Layering.{Readable, Loaded, level_at, layer_or};
 
 use doubles::number;
 use hypervolume::Point;
@@ -65,7 +65,7 @@ fn read_three(x: f64, y: f64, z: f64) -> Point
 // The point at place i of the doubles.
 fn read_point(ds: &[f64], i: usize) -> Point
     requires { 3 * i + 2 < length ds.now }
-    ensures { result.at ≡ get_or (points-of ds.now) i [] }
+    ensures { result.at ≡ get_or (points_of ds.now) i [] }
 {
     read_three(ds[3 * i], ds[3 * i + 1], ds[3 * i + 2])
 }
@@ -91,7 +91,7 @@ fn read(ds: &[f64], points: &mut [[u32; 3]], keys: &mut [u32]) -> bool
 
 // The z of the key at place i, or the reference's where that is lower or no key is left.
 fn level_at(keys: &[u32], i: usize, rz: u32) -> u32
-    ensures { result ≡ level-at keys.now i rz }
+    ensures { result ≡ level_at keys.now i rz }
 {
     if i < keys.len() {
         return hypervolume::smaller(keys[i] / 512, rz);
@@ -102,7 +102,7 @@ fn level_at(keys: &[u32], i: usize, rz: u32) -> u32
 // The sum with the layer from z up to the next level; as it is where that is the same level.
 fn add_level(sum: f64, area: u64, z: u32, next: u32) -> f64
     requires { (area ≤ 2 ^ 53) × (next ≤ 2 ^ 53) }
-    ensures { result ≡ layer-or sum area z next }
+    ensures { result ≡ layer_or sum area z next }
 {
     if z < next {
         return doubles::add_layer(sum, area, (next - z) as u64);
@@ -113,7 +113,7 @@ fn add_level(sum: f64, area: u64, z: u32, next: u32) -> f64
 // The layers in turn.
 fn sum_layers(points: &[[u32; 3]], keys: &[u32], reference: Point, line: &mut [u64]) -> f64
     requires { Taken 2 points.now keys.now × Small reference.at × (length line.old ≡ 512) }
-    ensures { result ≡ figure-of reference.at points.now }
+    ensures { result ≡ figure_of reference.at points.now }
 {
     let rx = reference.at[0] as u64;
     let ry = reference.at[1] as u64;
@@ -139,7 +139,7 @@ fn sum_layers(points: &[[u32; 3]], keys: &[u32], reference: Point, line: &mut [u
 // The keys put in order, then the layers.
 fn in_order(points: &[[u32; 3]], keys: &mut [u32], ascending: &mut [u32], reference: Point) -> f64
     requires { Few points.now × Keyed 2 points.now keys.old × (length ascending.old ≡ length points.now) × Small reference.at }
-    ensures { result ≡ figure-of reference.at points.now }
+    ensures { result ≡ figure_of reference.at points.now }
 {
     order::order(keys, ascending);
     let mut line = [0u64; 512];
@@ -149,7 +149,7 @@ fn in_order(points: &[[u32; 3]], keys: &mut [u32], ascending: &mut [u32], refere
 // Row 19 for the points, and the figure.
 fn figure(ds: &[f64], reference: Point) -> Volume
     requires { Readable ds.now × Small reference.at }
-    ensures { result ≡ pick (each (within 0 1048576) (map number_of ds.now)) (Cells (figure-of reference.at (points-of ds.now))) (Refused 19) }
+    ensures { result ≡ pick (each (within 0 1048576) (map number_of ds.now)) (Cells (figure_of reference.at (points_of ds.now))) (Refused 19) }
 {
     let mut points = [[0u32, 0, 0]; 512];
     let mut keys = [0u32; 512];
@@ -181,7 +181,7 @@ pub fn measure(reference: Corner, points: &[f64]) -> Volume
 
 // The number and the value of each case.
 pub fn answer(v: Volume) -> VolumeAnswer
-    ensures { result ≡ answer-of v }
+    ensures { result ≡ answer_of v }
 {
     match v {
         Volume::Cells(cells) => VolumeAnswer {
@@ -197,7 +197,7 @@ pub fn answer(v: Volume) -> VolumeAnswer
 
 // The call as C has it.
 pub fn volume_answer(reference: Corner, points: &[f64]) -> VolumeAnswer
-    ensures { result ≡ answer-of (volume reference points.now) }
+    ensures { result ≡ answer_of (volume reference points.now) }
 {
     answer(measure(reference, points))
 }

@@ -3,8 +3,8 @@ use Rattle.std.specs.Prelude.{ℕ, zero, suc, ◌+◌, ◌*◌, ◌≤◌, ◌<�
 use Rattle.slices.specs.Choices.{both}
 use Rattle.hypervolume.specs.Cells.{box}
 use Rattle.words.specs.Archive.{Trial, Row, Shape, reference, trials, before}
-use Rattle.words.specs.Layout.{word, read-row, read-rows, read-shape, extent}
-use Rattle.words.specs.Format.{header-allowed, row-allowed, held}
+use Rattle.words.specs.Layout.{word, read_row, read_rows, read_shape, extent}
+use Rattle.words.specs.Format.{header_allowed, row_allowed, held}
 use Rattle.words.specs.declared.rows.Row as code_row
 use Rattle.words.specs.declared.rows.Record as code-record
 use Rattle.words.specs.declared.rows.Shape as code_shape
@@ -15,21 +15,21 @@ as_row r =
     record { trial = record { number = r.number; x = r.x; y = r.y; z = r.z }; kept = r.kept }
 
 -- A number and a point's coordinates as a trial.
-abbrev pub as-trial : ℕ → List ℕ → Trial
-as-trial number p = record { number = number; x = get_or p 0 0; y = get_or p 1 0; z = get_or p 2 0 }
+abbrev pub as_trial : ℕ → List ℕ → Trial
+as_trial number p = record { number = number; x = get_or p 0 0; y = get_or p 1 0; z = get_or p 2 0 }
 
-abbrev pub as-record : code-record.Record → Row
-as-record r = record { trial = as-trial r.number r.point.at; kept = r.kept }
+abbrev pub as_record : code-record.Record → Row
+as_record r = record { trial = as_trial r.number r.point.at; kept = r.kept }
 
-abbrev pub as-shape : code_shape.Shape → Shape
-as-shape s = record { capacity = s.capacity; rx = s.rx; ry = s.ry; rz = s.rz }
+abbrev pub as_shape : code_shape.Shape → Shape
+as_shape s = record { capacity = s.capacity; rx = s.rx; ry = s.ry; rz = s.rz }
 
 -- The record at a place, counted from 0, and the records before that place.
 unfoldable pub row_at : List ℕ → ℕ → Row
-row_at w i = read-row (drop (8 + 5 * i) w)
+row_at w i = read_row (drop (8 + 5 * i) w)
 
 abbrev pub rows_before : List ℕ → ℕ → List Row
-rows_before w i = read-rows i (drop 8 w)
+rows_before w i = read_rows i (drop 8 w)
 
 -- Whether the record at a place stands in order behind the one before it.
 unfoldable pub follows : List ℕ → ℕ → Bool
@@ -43,17 +43,17 @@ repeated w i = held (row_at w i).trial.number (trials (rows_before w i))
 -- Row 3 at a place: the record is allowed, stands in order, and no record before it has its number.
 unfoldable pub stands : List ℕ → ℕ → Bool
 stands w i =
-    both (row-allowed (read-shape w) (row_at w i)) (both (follows w i) (not (repeated w i)))
+    both (row_allowed (read_shape w) (row_at w i)) (both (follows w i) (not (repeated w i)))
 
 -- What the test at a place is given: the box, and whether the number's bit was set by a record before.
 pub record AtPlace (w : List ℕ) (cells i : ℕ) (met : Bool) : Type 0 where
   pub inside : 8 + 5 * (i + 1) ≤ length w
-  pub boxed : cells ≡ box (reference (read-shape w))
+  pub boxed : cells ≡ box (reference (read_shape w))
   pub unmet : met ≡ false → repeated w i ≡ false
 
 -- Words that rows 1 and 2 let pass.
 pub record Headed (w : List ℕ) : Type 0 where
-  pub allowed : header-allowed w ≡ true
+  pub allowed : header_allowed w ≡ true
   pub whole : extent (word w 1) ≤ length w
 
 -- What a search for a number among the first n records finds: the first place that has it, or n where none has.

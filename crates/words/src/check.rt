@@ -4,9 +4,9 @@ ghost use Rattle.std.proofs.Math.Seq.{slice};
 ghost use Rattle.slices.specs.Choices.{both};
 ghost use Rattle.hypervolume.specs.Cells.{box};
 ghost use Rattle.words.specs.Archive.{reference, ascends};
-ghost use Rattle.words.specs.Layout.{read-shape, read};
-ghost use Rattle.words.specs.Format.{within, shape-allowed, number-allowed, coordinates-allowed, header-allowed, row-allowed, sound-rows, zeros, records-allowed, archive-rows};
-ghost use Rattle.words.specs.Places.{as_row, as-shape, follows, stands, AtPlace, Headed};
+ghost use Rattle.words.specs.Layout.{read_shape, read};
+ghost use Rattle.words.specs.Format.{within, shape_allowed, number_allowed, coordinates_allowed, header_allowed, row_allowed, sound_rows, zeros, records_allowed, archive_rows};
+ghost use Rattle.words.specs.Places.{as_row, as_shape, follows, stands, AtPlace, Headed};
 ghost use Rattle.words.specs.Table.{marked, Marking};
 
 use crate::rows::{Row, Shape, reference_point, row_at, search, shape_of};
@@ -21,7 +21,7 @@ pub fn within(low: u64, high: u64, n: u64) -> bool
 
 // Row 4, and part of row 2.
 pub fn shape_allowed(s: Shape) -> bool
-    ensures { result ≡ shape-allowed (as-shape s) }
+    ensures { result ≡ shape_allowed (as_shape s) }
 {
     both(
         within(1, 512, s.capacity),
@@ -34,14 +34,14 @@ pub fn shape_allowed(s: Shape) -> bool
 
 // Row 5, and part of row 3.
 pub fn number_allowed(n: u64) -> bool
-    ensures { result ≡ number-allowed n }
+    ensures { result ≡ number_allowed n }
 {
     within(1, 9999999, n)
 }
 
 // Row 6, and part of row 3.
 pub fn coordinates_allowed(row: Row) -> bool
-    ensures { result ≡ coordinates-allowed (as_row row).trial }
+    ensures { result ≡ coordinates_allowed (as_row row).trial }
 {
     both(
         within(0, 1048576, row.x),
@@ -60,7 +60,7 @@ pub fn box_of(reference: Point) -> u64
 // Row 2. The ranges come first, so that the box fits a word.
 fn header_allowed(w: &[u64]) -> bool
     requires { 8 ≤ length w.now }
-    ensures { result ≡ header-allowed w.now }
+    ensures { result ≡ header_allowed w.now }
 {
     let s = shape_of(w);
     if !shape_allowed(s) {
@@ -75,8 +75,8 @@ fn header_allowed(w: &[u64]) -> bool
 
 // Row 3, one record.
 fn row_allowed(s: Shape, cells: u64, row: Row) -> bool
-    requires { cells ≡ box (reference (as-shape s)) }
-    ensures { result ≡ row-allowed (as-shape s) (as_row row) }
+    requires { cells ≡ box (reference (as_shape s)) }
+    ensures { result ≡ row_allowed (as_shape s) (as_row row) }
 {
     both(
         number_allowed(row.number),
@@ -140,7 +140,7 @@ fn stands(w: &[u64], cells: u64, i: usize, met: bool) -> bool
 // Row 3, the records: each allowed, in order, no number twice. One pass.
 fn rows_allowed(w: &[u64]) -> bool
     requires { Headed w.now }
-    ensures { result ≡ sound-rows (read-shape w.now) (read w.now).rows }
+    ensures { result ≡ sound_rows (read_shape w.now) (read w.now).rows }
 {
     let cells = box_of(reference_point(shape_of(w)));
     let n = w[0] as usize;
@@ -173,7 +173,7 @@ fn zeros(w: &[u64], from: usize, to: usize) -> bool
 // Row 3.
 fn records_allowed(w: &[u64]) -> bool
     requires { Headed w.now }
-    ensures { result ≡ records-allowed w.now }
+    ensures { result ≡ records_allowed w.now }
 {
     if !rows_allowed(w) {
         return false;
@@ -183,7 +183,7 @@ fn records_allowed(w: &[u64]) -> bool
 
 // Rows 1 to 3 for any words: the number of the row that turns them down, or 0.
 pub fn refusal(w: &[u64]) -> u64
-    ensures { result ≡ archive-rows w.now 0 }
+    ensures { result ≡ archive_rows w.now 0 }
 {
     if w.len() < 8 {
         return 1;

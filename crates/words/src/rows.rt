@@ -1,9 +1,9 @@
 // Records and the header, read from the words.
 ghost use Rattle.std.specs.Prelude.{◌≡◌, true, ◌+◌, ◌*◌, ◌≤◌, ◌<◌, length};
 ghost use Rattle.words.specs.Archive.{reference, key};
-ghost use Rattle.words.specs.Layout.{read-shape, word};
-ghost use Rattle.words.specs.Format.{shape-allowed, archive-rows};
-ghost use Rattle.words.specs.Places.{as_row, as-record, as-shape, row_at, Found};
+ghost use Rattle.words.specs.Layout.{read_shape, word};
+ghost use Rattle.words.specs.Format.{shape_allowed, archive_rows};
+ghost use Rattle.words.specs.Places.{as_row, as_record, as_shape, row_at, Found};
 
 use hypervolume::Point;
 
@@ -37,7 +37,7 @@ pub struct Record {
 impl Record {
     // The numbers that the archive's order goes by.
     pub fn key(self) -> [u64; 4]
-        ensures { result ≡ key (as-record self).trial }
+        ensures { result ≡ key (as_record self).trial }
     {
         let at = self.point.at;
         [at[2] as u64, at[1] as u64, at[0] as u64, self.number]
@@ -70,8 +70,8 @@ pub fn row_at(w: &[u64], i: usize) -> Row
 
 // The record at place i, in words that rows 1 to 3 let pass.
 pub fn record_at(w: &[u64], i: usize) -> Record
-    requires { (archive-rows w.now 0 ≡ 0) × (i < word w.now 0) }
-    ensures { as-record result ≡ row_at w.now i }
+    requires { (archive_rows w.now 0 ≡ 0) × (i < word w.now 0) }
+    ensures { as_record result ≡ row_at w.now i }
 {
     let row = row_at(w, i);
     Record {
@@ -84,7 +84,7 @@ pub fn record_at(w: &[u64], i: usize) -> Record
 // The capacity and the reference that the header holds.
 pub fn shape_of(w: &[u64]) -> Shape
     requires { 8 ≤ length w.now }
-    ensures { as-shape result ≡ read-shape w.now }
+    ensures { as_shape result ≡ read_shape w.now }
 {
     Shape {
         capacity: w[1],
@@ -96,16 +96,16 @@ pub fn shape_of(w: &[u64]) -> Shape
 
 // The reference of an allowed shape, as a point.
 pub fn reference_point(s: Shape) -> Point
-    requires { shape-allowed (as-shape s) ≡ true }
-    ensures { result.at ≡ reference (as-shape s) }
+    requires { shape_allowed (as_shape s) ≡ true }
+    ensures { result.at ≡ reference (as_shape s) }
 {
     Point::new(s.rx, s.ry, s.rz)
 }
 
 // The reference of words that rows 1 to 3 let pass.
 pub fn reference_of(w: &[u64]) -> Point
-    requires { archive-rows w.now 0 ≡ 0 }
-    ensures { result.at ≡ reference (read-shape w.now) }
+    requires { archive_rows w.now 0 ≡ 0 }
+    ensures { result.at ≡ reference (read_shape w.now) }
 {
     reference_point(shape_of(w))
 }

@@ -1,7 +1,7 @@
 // Cards written back: the call, and what the program write_card prints.
 ghost use Rattle.std.specs.Prelude.{◌≡◌};
 ghost use Rattle.printing.specs.Printed.{PrintRoom, PrintsRead};
-ghost use Rattle.writing.specs.Written.{card-text, write, written};
+ghost use Rattle.writing.specs.Written.{card_text, write, written};
 
 use calls::Answer;
 
@@ -17,7 +17,7 @@ pub fn write(w: &[u64], out: &mut [u8]) -> Answer
 // refused card, and answers the length.
 pub fn print(input: &[u8], read: usize, out: &mut [u8]) -> usize
     requires { PrintRoom 33 input.now read out.old }
-    ensures { PrintsRead card-text input.now read out.old result out.new }
+    ensures { PrintsRead card_text input.now read out.old result out.new }
 {
     printing::print(input, read, out, 1, 0)
 }

@@ -3,8 +3,8 @@ use Prim.Native.Nat.{◌+◌, ◌-◌, ◌*◌, ◌^◌, ◌<◌, min}
 use mathlib.Core.Path.{◌≡◌, refl, ap, ◌∙◌}
 use native.Mathlib.Omega.{arith}
 use lib.ListN.{length, get_or}
-use Rattle.line.specs.Line.{x-of, y_of}
-use Rattle.area.proofs.Crossing.{Walking, walking-none, strip-fits, walking-end, next-on, next-most, next-clear, walking-stop, walking-more}
+use Rattle.line.specs.Line.{x_of, y_of}
+use Rattle.area.proofs.Crossing.{Walking, walking_none, strip_fits, walking_end, next_on, next_most, next_clear, walking_stop, walking_more}
 use borrow.Author.Rules.{rules}
 use Rattle.area.proofs.cross.Statement.{statement}
 use Rattle.area.proofs.cross.Tie as tie
@@ -19,7 +19,7 @@ smaller-requires : tie.Need-smaller-requires invariant-loop decreases-loop
 smaller-requires c κs = search rules
 
 loop-holds : tie.Need-loop-init invariant-loop decreases-loop
-loop-holds c = walking-none c.before.before.requires c.smaller.ensures
+loop-holds c = walking_none c.before.before.requires c.smaller.ensures
 
 mul-entry : tie.Need-overflow-mul-entry invariant-loop decreases-loop
 mul-entry c = search rules
@@ -37,11 +37,11 @@ smaller-requires-2 c κs = search rules
 abbrev turn : tie.After-smaller2 invariant-loop decreases-loop → tie.In-loop invariant-loop decreases-loop
 turn c = c.before.before.before
 
-reach : (c : tie.After-smaller2 invariant-loop decreases-loop) → c.smaller2.result ≡ min (x-of (get_or (turn c).before.before.before.before.args.line.now (turn c).before.loop.k 0)) (turn c).before.before.before.before.args.rx
-reach c = c.smaller2.ensures ∙ ap (λ v. min v (turn c).before.before.before.before.args.rx) c.before.x-of.ensures
+reach : (c : tie.After-smaller2 invariant-loop decreases-loop) → c.smaller2.result ≡ min (x_of (get_or (turn c).before.before.before.before.args.line.now (turn c).before.loop.k 0)) (turn c).before.before.before.before.args.rx
+reach c = c.smaller2.ensures ∙ ap (λ v. min v (turn c).before.before.before.before.args.rx) c.before.x_of.ensures
 
 sub-gain : tie.Need-overflow-sub-gain invariant-loop decreases-loop
-sub-gain c = next-on (turn c).before.loop.invariant (turn c).loop-test.true (reach c)
+sub-gain c = next_on (turn c).before.loop.invariant (turn c).loop-test.true (reach c)
 
 sub-gain-2 : tie.Need-overflow-sub-gain-2 invariant-loop decreases-loop
 sub-gain-2 c = (turn c).before.loop.invariant.higher
@@ -50,7 +50,7 @@ fits : (c : tie.After-smaller2 invariant-loop decreases-loop) → (turn c).befor
 fits c =
     let here = (turn c).before.loop.invariant in
     let inside = (turn c).loop-test.true in
-    strip-fits here c.smaller2.result (next-on here inside (reach c)) (next-most here inside (reach c)) (next-clear here inside (reach c))
+    strip_fits here c.smaller2.result (next_on here inside (reach c)) (next_most here inside (reach c)) (next_clear here inside (reach c))
 
 mul-gain : tie.Need-overflow-mul-gain invariant-loop decreases-loop
 mul-gain c = omega (arith, fits c)
@@ -69,7 +69,7 @@ returns : tie.Need-returns invariant-loop decreases-loop
 returns c =
     let crossed = c.before.before in
     let here = turn crossed in
-    walking-stop here.before.loop.inv here.loop-test.taken (reach crossed) refl (lower c.before c.if1.true)
+    walking_stop here.before.loop.inv here.loop-test.taken (reach crossed) refl (lower c.before c.if1.true)
 
 y-of-requires-2 : tie.Need-y-of-requires-2 invariant-loop decreases-loop
 y-of-requires-2 c κs = search rules
@@ -88,7 +88,7 @@ loop-again c =
     let kept = c.before.before in
     let crossed = kept.before.before in
     let here = turn crossed in
-    walking-more here.before.loop.inv here.loop-test.taken (reach crossed) refl
+    walking_more here.before.loop.inv here.loop-test.taken (reach crossed) refl
     (c.smaller3.ensures ∙ ap (λ v. min v here.before.before.before.before.args.ry) c.before.y-of2.ensures)
     (rw (← kept.before.y_of.ensures) kept.if1.false)
 
@@ -100,7 +100,7 @@ sub-t21 c = c.before.loop.invariant.higher
 
 last_fits : (c : tie.After-loop invariant-loop decreases-loop) → c.before.loop.gain + (c.before.before.before.before.args.rx - c.before.loop.from) * (c.before.loop.column - c.before.before.before.before.args.y) < 2 ^ 64
 last_fits c =
-    strip-fits c.before.loop.invariant c.before.before.before.before.args.rx c.before.loop.invariant.bound (omega arith)
+    strip_fits c.before.loop.invariant c.before.before.before.before.args.rx c.before.loop.invariant.bound (omega arith)
     (λ a m n. absurd (let no' : ⊥ = omega (arith, c.loop-test.false) in no'))
 
 mul-t22 : tie.Need-overflow-mul-t22 invariant-loop decreases-loop
@@ -110,7 +110,7 @@ add-t23 : tie.Need-overflow-add-t23 invariant-loop decreases-loop
 add-t23 c = omega (arith, last_fits c)
 
 returns-2 : tie.Need-returns-2 invariant-loop decreases-loop
-returns-2 c = walking-end c.before.loop.invariant c.loop-test.false refl
+returns-2 c = walking_end c.before.loop.invariant c.loop-test.false refl
 
 pub cross-spec : {M : Type 1} → statement M
 cross-spec =

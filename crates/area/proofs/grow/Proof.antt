@@ -2,7 +2,7 @@
 use mathlib.Core.Path.{sym}
 use native.Mathlib.Omega.{arith}
 use lib.Seq.{length-take-le}
-use Rattle.area.proofs.Growing.{growing-rising, growing-at, growing-falls, left_out, growing-crossing, growing-end, grew}
+use Rattle.area.proofs.Growing.{growing_rising, growing_at, growing_falls, left_out, growing_crossing, growing_end, grew}
 use borrow.Author.Rules.{rules}
 use Rattle.area.proofs.grow.Statement.{statement}
 use Rattle.area.proofs.grow.Tie as tie
@@ -30,19 +30,19 @@ slice-aggregate-rank : tie.Need-slice-aggregate-rank
 slice-aggregate-rank c = sym (length-take-le _ _ (omega (arith, (start c.before).requires.room)))
 
 rank-requires : tie.Need-rank-requires
-rank-requires c κs = (growing-rising (start c.before).requires, (start c.before).requires.small 0)
+rank-requires c κs = (growing_rising (start c.before).requires, (start c.before).requires.small 0)
 
 abbrev ranked : tie.After-rank → tie.Start
 ranked c = start c.before.before
 
 slice-reshare-prefix-top : tie.Need-slice-reshare-prefix-top
-slice-reshare-prefix-top c = growing-at (ranked c).requires c.rank.ensures
+slice-reshare-prefix-top c = growing_at (ranked c).requires c.rank.ensures
 
 slice-aggregate-top : tie.Need-slice-aggregate-top
-slice-aggregate-top c = sym (length-take-le _ _ (growing-at (ranked c.before).requires c.before.rank.ensures))
+slice-aggregate-top c = sym (length-take-le _ _ (growing_at (ranked c.before).requires c.before.rank.ensures))
 
 top-requires : tie.Need-top-requires
-top-requires c κs = growing-falls (ranked c.before).requires c.before.rank.ensures
+top-requires c κs = growing_falls (ranked c.before).requires c.before.rank.ensures
 
 -- where the point belongs
 abbrev place : tie.After-top → tie.After-rank
@@ -66,7 +66,7 @@ cross-requires : tie.Need-cross-requires
 cross-requires c κs =
     let open' = c.before in
     let here = place open'.before in
-    growing-crossing (ranked here).pre here.rank.ensures open'.before.top.ensures open'.if1.false
+    growing_crossing (ranked here).pre here.rank.ensures open'.before.top.ensures open'.if1.false
 
 -- the point is not covered
 abbrev crossed : tie.After-entry → tie.After-cross
@@ -84,7 +84,7 @@ replace-requires : tie.Need-replace-requires
 replace-requires c κs =
     let pre = (ranked (place (higher (crossed c)).before)).requires in
     let answer = (crossed c).cross.ensures in
-    (answer.front, growing-end pre answer.within, pre.room)
+    (answer.front, growing_end pre answer.within, pre.room)
 
 same-length-2 : tie.Need-same-length-2
 same-length-2 c = search rules

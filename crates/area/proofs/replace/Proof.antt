@@ -2,7 +2,7 @@
 use mathlib.Core.Path.{◌∙◌}
 use native.Mathlib.Omega.{arith}
 use lib.ListN.{length-set}
-use Rattle.area.proofs.Replacing.{replaced-none, closing, replaced-some}
+use Rattle.area.proofs.Replacing.{replaced_none, closing, replaced_some}
 use borrow.Author.Rules.{rules}
 use Rattle.area.proofs.replace.Statement.{statement}
 use Rattle.area.proofs.replace.Tie as tie
@@ -19,7 +19,7 @@ same_length c = search rules
 returns : tie.Need-returns
 returns c =
     let at-start = c.before.before.before.before.before.before in
-    (omega arith, replaced-none at-start.args.line.now at-start.args.m at-start.args.at at-start.args.end at-start.args.entry at-start.requires.0 at-start.requires.1 at-start.requires.2 c.before.before.before.before.if1.true c.before.before.place.ensures)
+    (omega arith, replaced_none at-start.args.line.now at-start.args.m at-start.args.at at-start.args.end at-start.args.entry at-start.requires.0 at-start.requires.1 at-start.requires.2 c.before.before.before.before.if1.true c.before.before.place.ensures)
 
 mul-line : tie.Need-overflow-mul-line
 mul-line c = search rules
@@ -43,7 +43,7 @@ same-length-2 c =
 returns-2 : tie.Need-returns-2
 returns-2 c =
     let at-start = c.before.before.before.before.before.before in
-    replaced-some at-start.args.line.now at-start.args.m at-start.args.at at-start.args.end at-start.args.entry at-start.requires.0 at-start.requires.1 at-start.requires.2 c.before.before.before.before.if1.false c.before.before.close.ensures
+    replaced_some at-start.args.line.now at-start.args.m at-start.args.at at-start.args.end at-start.args.entry at-start.requires.0 at-start.requires.1 at-start.requires.2 c.before.before.before.before.if1.false c.before.before.close.ensures
 
 pub replace_spec : {M : Type 1} → statement M
 replace_spec =

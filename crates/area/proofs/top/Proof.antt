@@ -3,13 +3,13 @@ use Prim.Native.Nat.{suc, ◌-◌, min}
 use mathlib.Core.Path.{◌≡◌, ap, ◌∙◌}
 use native.Mathlib.Omega.{arith}
 use lib.ListN.{length}
-use Rattle.area.proofs.Crossing.{topped-none, topped-last}
+use Rattle.area.proofs.Crossing.{topped_none, topped_last}
 use borrow.Author.Rules.{rules}
 use Rattle.area.proofs.top.Statement.{statement}
 use Rattle.area.proofs.top.Tie as tie
 
 returns : tie.Need-returns
-returns c = topped-none _ _ c.if1.true
+returns c = topped_none _ _ c.if1.true
 
 sub-y-of : tie.Need-overflow-sub-y-of
 sub-y-of c = search rules
@@ -33,7 +33,7 @@ whole c = omega (arith, c.if1.false)
 returns-2 : tie.Need-returns-2
 returns-2 c =
     let at-start = c.before.before.before.before.before in
-    topped-last at-start.args.ry at-start.args.line.now _ _ at-start.requires (whole c.before.before.before) (c.smaller.ensures ∙ ap (λ v. min v at-start.args.ry) c.before.y_of.ensures)
+    topped_last at-start.args.ry at-start.args.line.now _ _ at-start.requires (whole c.before.before.before) (c.smaller.ensures ∙ ap (λ v. min v at-start.args.ry) c.before.y_of.ensures)
 
 pub top-spec : {M : Type 1} → statement M
 top-spec =

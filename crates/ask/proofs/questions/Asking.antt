@@ -11,92 +11,92 @@ use Rattle.slices.specs.Choices.{both}
 use Rattle.rounding.specs.Nearest.{nearest}
 use Rattle.words.specs.Archive.{Trial, Row, Archive}
 use Rattle.words.specs.Layout.{read, word}
-use Rattle.words.specs.Format.{guard, archive-rows, coordinates-allowed, held}
+use Rattle.words.specs.Format.{guard, archive_rows, coordinates_allowed, held}
 use Rattle.words.specs.Places.{rows_before}
-use Rattle.calls.specs.Calls.{held-trials, box_of, rule-allowed, least-row, least-rows, joint-rows, gain-rows, share-of}
+use Rattle.calls.specs.Calls.{held_trials, box_of, rule_allowed, least_row, least_rows, joint_rows, gain_rows, share_of}
 use Rattle.calls.specs.Lent.{answer, least, share}
-use Rattle.calls.proofs.Answers.{guard-yes, guard-no, rows-refused, rows-passed, answer-refused, answer-done, least-refused, least-done}
-use Rattle.calls.proofs.Known.{known, Known, count-rows, box-filled}
+use Rattle.calls.proofs.Answers.{guard_yes, guard_no, rows_refused, rows_passed, answer_refused, answer_done, least_refused, least_done}
+use Rattle.calls.proofs.Known.{known, Known, count_rows, box_filled}
 
 -- Rows 1 to 3 refuse.
-pub answer-turned : (w : List ℕ) (r rest v : ℕ) → r ≡ archive-rows w 0 → (r ≡ 0 → ⊥)
-    → record { refusal = r; value = 0 } ≡ answer (archive-rows w rest) v
-answer-turned w r rest v e n = answer-refused _ r v (rows-refused w r rest e n) n
+pub answer-turned : (w : List ℕ) (r rest v : ℕ) → r ≡ archive_rows w 0 → (r ≡ 0 → ⊥)
+    → record { refusal = r; value = 0 } ≡ answer (archive_rows w rest) v
+answer-turned w r rest v e n = answer_refused _ r v (rows_refused w r rest e n) n
 
-pub least-turned : (w : List ℕ) (rule r : ℕ) → r ≡ archive-rows w 0 → (r ≡ 0 → ⊥) → record { refusal = r; number = 0; contribution = 0 } ≡ least w rule
+pub least-turned : (w : List ℕ) (rule r : ℕ) → r ≡ archive_rows w 0 → (r ≡ 0 → ⊥) → record { refusal = r; number = 0; contribution = 0 } ≡ least w rule
 unfolding least
-least-turned w rule r e n = least-refused _ r _ (rows-refused w r _ e n) n
+least-turned w rule r e n = least_refused _ r _ (rows_refused w r _ e n) n
 
 -- A row of the call's own turns it down; or none does.
-pub answer-row : (w : List ℕ) (r rest v : ℕ) → archive-rows w 0 ≡ 0 → rest ≡ suc r
-    → record { refusal = suc r; value = 0 } ≡ answer (archive-rows w rest) v
-answer-row w r rest v p e = answer-refused _ (suc r) v (rows-passed w rest p ∙ e) (λ z. omega arith)
+pub answer-row : (w : List ℕ) (r rest v : ℕ) → archive_rows w 0 ≡ 0 → rest ≡ suc r
+    → record { refusal = suc r; value = 0 } ≡ answer (archive_rows w rest) v
+answer-row w r rest v p e = answer_refused _ (suc r) v (rows_passed w rest p ∙ e) (λ z. omega arith)
 
-pub answer-value : (w : List ℕ) (rest u v : ℕ) → archive-rows w 0 ≡ 0 → rest ≡ 0 → u ≡ v
-    → record { refusal = 0; value = u } ≡ answer (archive-rows w rest) v
-answer-value w rest u v p e f = answer-done _ v u (rows-passed w rest p ∙ e) f
+pub answer-value : (w : List ℕ) (rest u v : ℕ) → archive_rows w 0 ≡ 0 → rest ≡ 0 → u ≡ v
+    → record { refusal = 0; value = u } ≡ answer (archive_rows w rest) v
+answer-value w rest u v p e f = answer_done _ v u (rows_passed w rest p ∙ e) f
 
 -- Least.
-module _ (w : List ℕ) (rule : ℕ) (p : archive-rows w 0 ≡ 0) where
-  pub least-unruled : rule-allowed rule ≡ false → record { refusal = 18; number = 0; contribution = 0 } ≡ least w rule
-  unfolding least least-rows
+module _ (w : List ℕ) (rule : ℕ) (p : archive_rows w 0 ≡ 0) where
+  pub least-unruled : rule_allowed rule ≡ false → record { refusal = 18; number = 0; contribution = 0 } ≡ least w rule
+  unfolding least least_rows
   least-unruled r =
-      let row : archive-rows w (least-rows (read w) rule) ≡ 18 = rows-passed w _ p ∙ guard-yes (not (rule-allowed rule)) 18 _ (ap not r) in
-      least-refused _ 18 _ row (λ z. omega arith)
+      let row : archive_rows w (least_rows (read w) rule) ≡ 18 = rows_passed w _ p ∙ guard_yes (not (rule_allowed rule)) 18 _ (ap not r) in
+      least_refused _ 18 _ row (λ z. omega arith)
 
-  pub least-none-held : rule-allowed rule ≡ true → word w 0 ≡ 0 → record { refusal = 14; number = 0; contribution = 0 } ≡ least w rule
-  unfolding least least-rows
+  pub least-none-held : rule_allowed rule ≡ true → word w 0 ≡ 0 → record { refusal = 14; number = 0; contribution = 0 } ≡ least w rule
+  unfolding least least_rows
   least-none-held r e =
-      let row : archive-rows w (least-rows (read w) rule) ≡ 14 =
-      rows-passed w _ p ∙ guard-no (not (rule-allowed rule)) 18 _ (ap not r) ∙ guard-yes (eqb (length (read w).rows) 0) 14 0 (eq-eqb _ _ (count-rows w ∙ e)) in
-      least-refused _ 14 _ row (λ z. omega arith)
+      let row : archive_rows w (least_rows (read w) rule) ≡ 14 =
+      rows_passed w _ p ∙ guard_no (not (rule_allowed rule)) 18 _ (ap not r) ∙ guard_yes (eqb (length (read w).rows) 0) 14 0 (eq-eqb _ _ (count_rows w ∙ e)) in
+      least_refused _ 14 _ row (λ z. omega arith)
 
-  pub least-found : (found : Row) → rule-allowed rule ≡ true → (word w 0 ≡ 0 → ⊥) → found ≡ least-row rule (rows_before w (word w 0))
+  pub least-found : (found : Row) → rule_allowed rule ≡ true → (word w 0 ≡ 0 → ⊥) → found ≡ least_row rule (rows_before w (word w 0))
       → record { refusal = 0; number = found.trial.number; contribution = found.kept } ≡ least w rule
-  unfolding least least-rows read
+  unfolding least least_rows read
   least-found found r n e =
-      let row : archive-rows w (least-rows (read w) rule) ≡ 0 =
-      rows-passed w _ p ∙ guard-no (not (rule-allowed rule)) 18 _ (ap not r) ∙ guard-no (eqb (length (read w).rows) 0) 14 0 (ne_eqb _ _ (λ z. n (sym (count-rows w) ∙ z))) in
-      least-done _ (least-row rule (read w).rows) found row e
+      let row : archive_rows w (least_rows (read w) rule) ≡ 0 =
+      rows_passed w _ p ∙ guard_no (not (rule_allowed rule)) 18 _ (ap not r) ∙ guard_no (eqb (length (read w).rows) 0) 14 0 (ne_eqb _ _ (λ z. n (sym (count_rows w) ∙ z))) in
+      least_done _ (least_row rule (read w).rows) found row e
 
 -- Share. The box has a cell, and the kept total is at most the box.
-pub share-asks : (w : List ℕ) (cells : ℕ) → archive-rows w 0 ≡ 0 → cells ≡ box_of (read w)
+pub share_asks : (w : List ℕ) (cells : ℕ) → archive_rows w 0 ≡ 0 → cells ≡ box_of (read w)
     → (1 ≤ cells) × (word w 5 ≤ cells) × (cells ≤ 1152921504606846976)
 unfolding read
-share-asks w cells p e =
+share_asks w cells p e =
     let k : Known w = known w p in
-    omega (arith, k, e, box-filled w p)
+    omega (arith, k, e, box_filled w p)
 
-pub share-value : (w : List ℕ) (cells r : ℕ) → archive-rows w 0 ≡ 0 → cells ≡ box_of (read w)
+pub share-value : (w : List ℕ) (cells r : ℕ) → archive_rows w 0 ≡ 0 → cells ≡ box_of (read w)
     → r ≡ nearest (word w 5 * 1000000) cells → record { refusal = 0; value = r } ≡ share w
-unfolding share share-of read
+unfolding share share_of read
 share-value w cells r p e f = answer-value w 0 r _ p refl (f ∙ ap (λ k. nearest (word w 5 * 1000000) k) e)
 
 -- The rows of joint.
 module _ (a : Archive) (m n : ℕ) where
-  pub joint-first-absent : held m (held-trials a) ≡ false → joint-rows a m n ≡ 9
-  unfolding joint-rows both
-  joint-first-absent e = guard-yes _ 9 _ (rw e)
+  pub joint-first-absent : held m (held_trials a) ≡ false → joint_rows a m n ≡ 9
+  unfolding joint_rows both
+  joint-first-absent e = guard_yes _ 9 _ (rw e)
 
-  pub joint-second-absent : held m (held-trials a) ≡ true → held n (held-trials a) ≡ false → joint-rows a m n ≡ 9
-  unfolding joint-rows both
-  joint-second-absent e f = guard-yes _ 9 _ (rw (e, f))
+  pub joint-second-absent : held m (held_trials a) ≡ true → held n (held_trials a) ≡ false → joint_rows a m n ≡ 9
+  unfolding joint_rows both
+  joint-second-absent e f = guard_yes _ 9 _ (rw (e, f))
 
-  behind-9 : held m (held-trials a) ≡ true → held n (held-trials a) ≡ true → joint-rows a m n ≡ guard (eqb m n) 10 0
-  unfolding joint-rows both
-  behind-9 e f = guard-no _ 9 _ (rw (e, f))
+  behind-9 : held m (held_trials a) ≡ true → held n (held_trials a) ≡ true → joint_rows a m n ≡ guard (eqb m n) 10 0
+  unfolding joint_rows both
+  behind-9 e f = guard_no _ 9 _ (rw (e, f))
 
-  pub joint-same-number : held m (held-trials a) ≡ true → held n (held-trials a) ≡ true → m ≡ n → joint-rows a m n ≡ 10
-  joint-same-number e f g = behind-9 e f ∙ guard-yes _ 10 0 (eq-eqb m n g)
+  pub joint-same-number : held m (held_trials a) ≡ true → held n (held_trials a) ≡ true → m ≡ n → joint_rows a m n ≡ 10
+  joint-same-number e f g = behind-9 e f ∙ guard_yes _ 10 0 (eq-eqb m n g)
 
-  pub joint-passes : held m (held-trials a) ≡ true → held n (held-trials a) ≡ true → (m ≡ n → ⊥) → joint-rows a m n ≡ 0
-  joint-passes e f g = behind-9 e f ∙ guard-no _ 10 0 (ne_eqb m n g)
+  pub joint-passes : held m (held_trials a) ≡ true → held n (held_trials a) ≡ true → (m ≡ n → ⊥) → joint_rows a m n ≡ 0
+  joint-passes e f g = behind-9 e f ∙ guard_no _ 10 0 (ne_eqb m n g)
 
 -- The row of gain.
-pub gain-refused : (t : Trial) → coordinates-allowed t ≡ false → gain-rows t ≡ 6
-unfolding gain-rows
-gain-refused t e = guard-yes _ 6 0 (ap not e)
+pub gain-refused : (t : Trial) → coordinates_allowed t ≡ false → gain_rows t ≡ 6
+unfolding gain_rows
+gain-refused t e = guard_yes _ 6 0 (ap not e)
 
-pub gain-passes : (t : Trial) → coordinates-allowed t ≡ true → gain-rows t ≡ 0
-unfolding gain-rows
-gain-passes t e = guard-no _ 6 0 (ap not e)
+pub gain_passes : (t : Trial) → coordinates_allowed t ≡ true → gain_rows t ≡ 0
+unfolding gain_rows
+gain_passes t e = guard_no _ 6 0 (ap not e)

@@ -5,7 +5,7 @@ use mathlib.Core.List.{List, ◌∷◌, map, []}
 use native.Mathlib.Omega.{arith}
 use lib.ListN.{get_or, get_or-map}
 use Rattle.axes.specs.Orders.{Axis, x, y, z, place_of, along, orders, letters, rearranged}
-use Rattle.axes.proofs.Swaps.{by-letters}
+use Rattle.axes.proofs.Swaps.{by_letters}
 
 abbrev pub entry : ℕ → ℕ → ℕ
 entry order place =
@@ -27,14 +27,14 @@ entry-is order place =
     ∙ ap (get_or (map place_of (get_or orders order [])) place) (sym none)
     ∙ get_or-map place_of (get_or orders order []) place x
 
-pub place-low : (axis : Axis) → place_of axis < 3
+pub place_low : (axis : Axis) → place_of axis < 3
 unfolding place_of
-place-low x = omega arith
-place-low y = omega arith
-place-low z = omega arith
+place_low x = omega arith
+place_low y = omega arith
+place_low z = omega arith
 
 pub coordinates-by : (order : ℕ) (p : List ℕ) (a b c : ℕ) → order < 6
     → a ≡ place_of (get_or (letters order) 0 x) → b ≡ place_of (get_or (letters order) 1 x) → c ≡ place_of (get_or (letters order) 2 x)
     → get_or p a 0 ∷ get_or p b 0 ∷ get_or p c 0 ∷ [] ≡ rearranged order p
 unfolding along
-coordinates-by order p a b c known ea eb ec = rw (ea, eb, ec) (sym (by-letters order known p))
+coordinates-by order p a b c known ea eb ec = rw (ea, eb, ec) (sym (by_letters order known p))

@@ -8,17 +8,17 @@ use Rattle.words.specs.Layout.{extent}
 use Rattle.card.specs.declared.Loaded.{Loaded}
 use Rattle.card.specs.Card.{lines, load, ReadInto}
 use Rattle.card.specs.Check.{packed, check}
-use Rattle.card.specs.Verdict.{Verdict, refusal, archive, judge, answer-of}
+use Rattle.card.specs.Verdict.{Verdict, refusal, archive, judge, answer_of}
 use Rattle.card.specs.Theorems.{TurnedDown, form, shape, slice, number, coordinate, held, full}
 use Rattle.card.proofs.Verdicts as verdicts
-use Rattle.card.proofs.Theorems.{load-answer, load-stays, check-answer}
+use Rattle.card.proofs.Theorems.{load_answer, load_stays, check_answer}
 
-module _ (w card : List ℕ) {a : Loaded} (judged : a ≡ answer-of (judge (length w) (lines card))) where
+module _ (w card : List ℕ) {a : Loaded} (judged : a ≡ answer_of (judge (length w) (lines card))) where
   answers : a ≡ (load w card).answer
-  answers = judged ∙ sym (load-answer w card)
+  answers = judged ∙ sym (load_answer w card)
 
-  pub load-refused : (a.refusal ≡ 0 → ⊥) → (a ≡ (load w card).answer) × (w ≡ (load w card).words)
-  load-refused other = (answers, sym (load-stays w card (λ e. other (ap (λ x. x.refusal) answers ∙ e))))
+  pub load_refused : (a.refusal ≡ 0 → ⊥) → (a ≡ (load w card).answer) × (w ≡ (load w card).words)
+  load_refused other = (answers, sym (load_stays w card (λ e. other (ap (λ x. x.refusal) answers ∙ e))))
 
   pub load-done : {r : Loaded} {after : List ℕ} → a.refusal ≡ 0 → ReadInto (load w card) r after
       → (r ≡ (load w card).answer) × (after ≡ (load w card).words)
@@ -33,15 +33,15 @@ small_row (coordinate l h) = (omega arith, h)
 small_row (held l h) = (omega arith, h)
 small_row (full l h) = (omega arith, h)
 
-small : (v : Verdict) → verdicts.Possible v → ((answer-of v).refusal ≤ 15) × ((answer-of v).line ≤ 514)
-unfolding answer-of
+small : (v : Verdict) → verdicts.Possible v → ((answer_of v).refusal ≤ 15) × ((answer_of v).line ≤ 514)
+unfolding answer_of
 small (refusal n line) (verdicts.refused d) = small_row d
 small (archive a) (verdicts.accepted f) = (omega arith, omega arith)
 
-module _ (card : List ℕ) {r : Loaded} (judged : r ≡ answer-of (judge 2568 (lines card))) where
+module _ (card : List ℕ) {r : Loaded} (judged : r ≡ answer_of (judge 2568 (lines card))) where
   pub small-answer : (r.refusal ≤ 15) × (r.line ≤ 514)
   small-answer = rw judged (small (judge 2568 (lines card)) (verdicts.possible 2568 (lines card)))
 
   pub checked : r.refusal * 65536 + r.line ≡ check card
   unfolding packed extent
-  checked = ap packed judged ∙ sym (check-answer card)
+  checked = ap packed judged ∙ sym (check_answer card)

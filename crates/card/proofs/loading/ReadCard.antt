@@ -12,41 +12,41 @@ use Rattle.text.specs.declared.Line.TheVariants.{Values, Malformed}
 use Rattle.hypervolume.specs.Front.{front, unbeaten}
 use Rattle.words.specs.Archive.{Trial, Shape, Archive, trials, points}
 use Rattle.words.specs.Layout.{extent, layout, read, behind}
-use Rattle.words.specs.Format.{archive-rows, shape-allowed}
-use Rattle.words.proofs.Reading.{read-layout, behind-layout}
-use Rattle.calls.specs.Calls.{empty, renewed, inserted, insert-rows, admission-rows}
-use Rattle.calls.specs.Lent.{Outcome, shape_of, trial-of, start-rows, start}
-use Rattle.calls.proofs.Answers.{leaves-done}
-use Rattle.calls.proofs.Lent.{leaves-refusal}
-use Rattle.calls.proofs.Earlier.{inserted-front, insert-rows-front}
-use Rattle.calls.proofs.Sound.{inserted-count}
+use Rattle.words.specs.Format.{archive_rows, shape_allowed}
+use Rattle.words.proofs.Reading.{read_layout, behind_layout}
+use Rattle.calls.specs.Calls.{empty, renewed, inserted, insert_rows, admission_rows}
+use Rattle.calls.specs.Lent.{Outcome, shape_of, trial_of, start_rows, start}
+use Rattle.calls.proofs.Answers.{leaves_done}
+use Rattle.calls.proofs.Lent.{leaves_refusal}
+use Rattle.calls.proofs.Earlier.{inserted_front, insert_rows_front}
+use Rattle.calls.proofs.Sound.{inserted_count}
 use Rattle.records.specs.Fronts.{fronted, unfronted}
 use Rattle.records.proofs.Stored
 use Rattle.insertion.specs.Inserting.{Enters}
 use Rattle.card.specs.declared.Loaded.{Loaded}
-use Rattle.card.specs.Card.{shape_on, trial_on, line-count, lines, due, malformed, by_form, first-line, load, ReadInto}
-use Rattle.card.specs.Verdict.{Verdict, refusal, archive, in-turn, judge-further, judge, answer-of, words_of, carried-out}
-use Rattle.card.specs.Reading.{EntersLine, row-15, of-the-form}
-use Rattle.card.proofs.CardLines.{Inside, lines-due, no-lines-due}
-use Rattle.card.proofs.Judging.{Fair, insert-rows-fair, inserted-fair, empty-fair, shape-passed, loads}
-use Rattle.card.proofs.Verdicts.{few, in-turn-refused, in-turn-passed}
+use Rattle.card.specs.Card.{shape_on, trial_on, line_count, lines, due, malformed, by_form, first_line, load, ReadInto}
+use Rattle.card.specs.Verdict.{Verdict, refusal, archive, in_turn, judge_further, judge, answer_of, words_of, carried_out}
+use Rattle.card.specs.Reading.{EntersLine, row_15, of_the_form}
+use Rattle.card.proofs.CardLines.{Inside, lines_due, no_lines_due}
+use Rattle.card.proofs.Judging.{Fair, insert_rows_fair, inserted_fair, empty_fair, shape_passed, loads}
+use Rattle.card.proofs.Verdicts.{few, in_turn_refused, in_turn_passed}
 
 -- A line that is not of the form, and the call that any other line makes.
 module _ (w : List ℕ) {l : Line} where
-  pub first-missing : l ≡ Malformed → malformed w ≡ first-line w (numbers_of l)
-  unfolding first-line by_form
+  pub first-missing : l ≡ Malformed → malformed w ≡ first_line w (numbers_of l)
+  unfolding first_line by_form
   first-missing e = rw e
 
-  pub first-called : {a b c d : ℕ} → l ≡ Values a b c d → start w (shape_of a b c d) ≡ first-line w (numbers_of l)
-  unfolding first-line by_form shape_on
+  pub first-called : {a b c d : ℕ} → l ≡ Values a b c d → start w (shape_of a b c d) ≡ first_line w (numbers_of l)
+  unfolding first_line by_form shape_on
   first-called e = rw e
 
 pub further-missing : (w : List ℕ) {l : Line} → l ≡ Malformed → EntersLine w (numbers_of l) 15 w
-further-missing w e = rw e (row-15 refl refl)
+further-missing w e = rw e (row_15 refl refl)
 
-pub further-entered : {w left : List ℕ} {l : Line} {a b c d r : ℕ} → l ≡ Values a b c d → Enters w (trial-of a b c d) r left → EntersLine w (numbers_of l) r left
+pub further-entered : {w left : List ℕ} {l : Line} {a b c d r : ℕ} → l ≡ Values a b c d → Enters w (trial_of a b c d) r left → EntersLine w (numbers_of l) r left
 unfolding trial_on
-further-entered e h = rw e (of-the-form h)
+further-entered e h = rw e (of_the_form h)
 
 -- What is said of a call's outcome is said of an equal one.
 pub same_outcome : {o q : Outcome} {r : ℕ} {after : List ℕ} → o ≡ q → (r ≡ o.refusal) × (after ≡ o.words)
@@ -54,75 +54,75 @@ pub same_outcome : {o q : Outcome} {r : ℕ} {after : List ℕ} → o ≡ q → 
 same_outcome e said = rw (← e) said
 
 -- A verdict on the whole card: a refusal, of which nothing that was read matters, or an archive.
-module _ (before card : List ℕ) {v : Verdict} (e : load before card ≡ carried-out before v) where
+module _ (before card : List ℕ) {v : Verdict} (e : load before card ≡ carried_out before v) where
   read-refused : {k line : ℕ} {after : List ℕ} {r : Loaded} → v ≡ refusal k line → (k ≡ 0 → ⊥) → r ≡ record { refusal = k; line = line; count = 0 }
       → ReadInto (load before card) r after
-  unfolding carried-out answer-of
+  unfolding carried_out answer_of
   read-refused {k} {line} {after} {r} is other said =
       record {
-        answer = said ∙ sym (ap (λ x. x.answer) (e ∙ ap (carried-out before) is));
+        answer = said ∙ sym (ap (λ x. x.answer) (e ∙ ap (carried_out before) is));
         words = λ none'. absurd (other (sym (ap (λ (x : Loaded). x.refusal) said) ∙ none'));
       }
 
   read-accepted : {a : Archive} {n : ℕ} {after : List ℕ} → v ≡ archive a → n ≡ length a.rows → after ≡ layout a ++ drop (extent a.shape.capacity) before
       → ReadInto (load before card) (record { refusal = 0; line = 0; count = n }) after
-  unfolding carried-out answer-of words_of
+  unfolding carried_out answer_of words_of
   read-accepted {a} {n} {after} is count words =
       record {
-        answer = ap (λ k. record { refusal = 0; line = 0; count = k }) count ∙ sym (ap (λ x. x.answer) (e ∙ ap (carried-out before) is));
-        words = λ none'. words ∙ sym (ap (λ x. x.words) (e ∙ ap (carried-out before) is));
+        answer = ap (λ k. record { refusal = 0; line = 0; count = k }) count ∙ sym (ap (λ x. x.answer) (e ∙ ap (carried_out before) is));
+        words = λ none'. words ∙ sym (ap (λ x. x.words) (e ∙ ap (carried_out before) is));
       }
 
 pub card-missing : (w card : List ℕ) {r : Loaded} {after : List ℕ} → none ≡ due card 1
     → r ≡ record { refusal = 15; line = 1; count = 0 } → ReadInto (load w card) r after
 unfolding judge
 card-missing w card e said =
-    read-refused w card (loads w card) (ap (judge (length w)) (no-lines-due card {line = 1} (omega arith) e)) (λ z. omega arith) said
+    read-refused w card (loads w card) (ap (judge (length w)) (no_lines_due card {line = 1} (omega arith) e)) (λ z. omega arith) said
 
 -- Line 1 refused, or the archive started.
 pub record Started (before card w : List ℕ) : Type 0 where
   pub shape : Shape
-  pub allowed : shape-allowed shape ≡ true
+  pub allowed : shape_allowed shape ≡ true
   pub words : w ≡ layout (empty shape) ++ drop (extent shape.capacity) before
-  pub comes-to : load before card ≡ carried-out before (judge-further (empty shape) (lines (drop 33 card)))
+  pub comes-to : load before card ≡ carried_out before (judge_further (empty shape) (lines (drop 33 card)))
 
-start-row : (w : List ℕ) (s : Shape) → (start w s).refusal ≡ start-rows (length w) s
+start-row : (w : List ℕ) (s : Shape) → (start w s).refusal ≡ start_rows (length w) s
 unfolding start
-start-row w s = leaves-refusal w [] _ _ _ _
+start-row w s = leaves_refusal w [] _ _ _ _
 
-start-words : (w : List ℕ) (s : Shape) → start-rows (length w) s ≡ 0 → (start w s).words ≡ layout (empty s) ++ drop (extent s.capacity) w
+start-words : (w : List ℕ) (s : Shape) → start_rows (length w) s ≡ 0 → (start w s).words ≡ layout (empty s) ++ drop (extent s.capacity) w
 unfolding start
-start-words w s e = ap (λ o. o.words) (leaves-done w [] _ 0 _ [] e)
+start-words w s e = ap (λ o. o.words) (leaves_done w [] _ 0 _ [] e)
 
-line-1-refused : (w : List ℕ) (l : Option Numbers) (ls : List (Option Numbers)) (k : ℕ) → k ≡ (first-line w l).refusal → (k ≡ 0 → ⊥) → judge (length w) (l ∷ ls) ≡ refusal k 1
-unfolding judge first-line by_form malformed
+line-1-refused : (w : List ℕ) (l : Option Numbers) (ls : List (Option Numbers)) (k : ℕ) → k ≡ (first_line w l).refusal → (k ≡ 0 → ⊥) → judge (length w) (l ∷ ls) ≡ refusal k 1
+unfolding judge first_line by_form malformed
 line-1-refused w none ls k e n = ap (λ r. refusal r 1) (sym e)
 line-1-refused w (some v) ls k e n =
-    ap (λ r. in-turn r 1 (judge-further (empty (shape_on v)) ls)) (sym (start-row w (shape_on v)) ∙ sym e) ∙ in-turn-refused k 1 _ n
+    ap (λ r. in_turn r 1 (judge_further (empty (shape_on v)) ls)) (sym (start-row w (shape_on v)) ∙ sym e) ∙ in_turn_refused k 1 _ n
 
-line-1-done : (w card after : List ℕ) (l : Option Numbers) → load w card ≡ carried-out w (judge (length w) (l ∷ lines (drop 33 card)))
-    → (first-line w l).refusal ≡ 0 → after ≡ (first-line w l).words → Started w card after
-unfolding judge first-line by_form malformed
+line-1-done : (w card after : List ℕ) (l : Option Numbers) → load w card ≡ carried_out w (judge (length w) (l ∷ lines (drop 33 card)))
+    → (first_line w l).refusal ≡ 0 → after ≡ (first_line w l).words → Started w card after
+unfolding judge first_line by_form malformed
 line-1-done w card after none f e words = absurd (let no' : ⊥ = omega (arith, e) in no')
 line-1-done w card after (some v) f e words =
-    let passes : start-rows (length w) (shape_on v) ≡ 0 = sym (start-row w (shape_on v)) ∙ e in
+    let passes : start_rows (length w) (shape_on v) ≡ 0 = sym (start-row w (shape_on v)) ∙ e in
     record {
       shape = shape_on v;
-      allowed = shape-passed (length w) (shape_on v) passes;
+      allowed = shape_passed (length w) (shape_on v) passes;
       words = words ∙ start-words w (shape_on v) passes;
-      comes-to = f ∙ ap (carried-out w) (in-turn-passed _ 1 _ passes);
+      comes-to = f ∙ ap (carried_out w) (in_turn_passed _ 1 _ passes);
     }
 
-module _ (w card : List ℕ) {l : Option Numbers} (i : Inside card 1 l) {k : ℕ} (e : k ≡ (first-line w l).refusal) where
-  first-judged : load w card ≡ carried-out w (judge (length w) (l ∷ lines (drop 33 card)))
-  first-judged = loads w card ∙ ap (λ ls. carried-out w (judge (length w) ls)) (lines-due card i)
+module _ (w card : List ℕ) {l : Option Numbers} (i : Inside card 1 l) {k : ℕ} (e : k ≡ (first_line w l).refusal) where
+  first_judged : load w card ≡ carried_out w (judge (length w) (l ∷ lines (drop 33 card)))
+  first_judged = loads w card ∙ ap (λ ls. carried_out w (judge (length w) ls)) (lines_due card i)
 
   pub first-refused : {r : Loaded} {after : List ℕ} → (k ≡ 0 → ⊥) → r ≡ record { refusal = k; line = 1; count = 0 }
       → ReadInto (load w card) r after
-  first-refused other said = read-refused w card first-judged (line-1-refused w l _ k e other) other said
+  first-refused other said = read-refused w card first_judged (line-1-refused w l _ k e other) other said
 
-  pub first_done : {after : List ℕ} → k ≡ 0 → after ≡ (first-line w l).words → Started w card after
-  first_done {after} done words = line-1-done w card after l first-judged (sym e ∙ done) words
+  pub first_done : {after : List ℕ} → k ≡ 0 → after ≡ (first_line w l).words → Started w card after
+  first_done {after} done words = line-1-done w card after l first_judged (sym e ∙ done) words
 
 -- The words just started.
 empty-unfronted : (s : Shape) → unfronted (empty s) ≡ empty s
@@ -131,41 +131,41 @@ empty-unfronted s = refl
 
 module _ {before card w : List ℕ} (s : Started before card w) where
   started-reads : read w ≡ empty s.shape
-  started-reads = ap read s.words ∙ read-layout (empty s.shape) _
+  started-reads = ap read s.words ∙ read_layout (empty s.shape) _
 
   started-behind : behind w ≡ drop (extent s.shape.capacity) before
   unfolding empty
-  started-behind = ap behind s.words ∙ behind-layout (empty s.shape) _ (omega arith)
+  started-behind = ap behind s.words ∙ behind_layout (empty s.shape) _ (omega arith)
 
-  pub started-comes-to : load before card ≡ carried-out before (judge-further (read w) (lines (drop 33 card)))
-  started-comes-to = s.comes-to ∙ ap (λ a. carried-out before (judge-further a (lines (drop 33 card)))) (sym started-reads)
+  pub started-comes-to : load before card ≡ carried_out before (judge_further (read w) (lines (drop 33 card)))
+  started-comes-to = s.comes-to ∙ ap (λ a. carried_out before (judge_further a (lines (drop 33 card)))) (sym started-reads)
 
 -- The loop over the further lines, from the words w₁ on: the archive so far, which the words hold but for its front, and what is
 -- left of the card comes to what the whole does.
 pub record Reading (card w₁ : List ℕ) (line : ℕ) (w : List ℕ) : Type 0 where
   pub second : 2 ≤ line
-  pub upto : line ≤ line-count card + 1
+  pub upto : line ≤ line_count card + 1
   pub same : length w ≡ length w₁
   pub so_far : Archive
   pub fair : Fair so_far
   pub shaped : so_far.shape ≡ (read w₁).shape
   pub words : w ≡ layout (unfronted so_far) ++ behind w₁
   pub count : length so_far.rows + 2 ≡ line
-  pub left : judge-further (read w₁) (lines (drop 33 card)) ≡ judge-further so_far (lines (drop (33 * (line - 1)) card))
+  pub left : judge_further (read w₁) (lines (drop 33 card)) ≡ judge_further so_far (lines (drop (33 * (line - 1)) card))
 
-pub reading-none : {before card w : List ℕ} {l : Option Numbers} → Inside card 1 l → Started before card w → Reading card w 2 w
+pub reading_none : {before card w : List ℕ} {l : Option Numbers} → Inside card 1 l → Started before card w → Reading card w 2 w
 unfolding empty
-reading-none {before} {card} {w} i s =
+reading_none {before} {card} {w} i s =
     record {
       second = omega arith;
       upto = omega (arith, i.last);
       same = refl;
       so_far = empty s.shape;
-      fair = empty-fair s.shape s.allowed;
+      fair = empty_fair s.shape s.allowed;
       shaped = ap (λ a. a.shape) (sym (started-reads s));
       words = s.words ∙ ap₂ (λ a b. layout a ++ b) (sym (empty-unfronted s.shape)) (sym (started-behind s));
       count = refl;
-      left = ap (λ a. judge-further a (lines (drop 33 card))) (started-reads s);
+      left = ap (λ a. judge_further a (lines (drop 33 card))) (started-reads s);
     }
 
 -- One line of those due, on the archive so far.
@@ -173,79 +173,79 @@ inserted-shape : (a : Archive) (t : Trial) → (inserted a t).shape ≡ a.shape
 unfolding inserted
 inserted-shape a t = refl
 
-further-passed : (a : Archive) (v : Numbers) (ls : List (Option Numbers)) → admission-rows a (trial_on v) 0 ≡ 0 → judge-further a (some v ∷ ls) ≡ judge-further (inserted a (trial_on v)) ls
-unfolding judge-further
-further-passed a v ls e = in-turn-passed _ (length a.rows + 2) _ e
+further-passed : (a : Archive) (v : Numbers) (ls : List (Option Numbers)) → admission_rows a (trial_on v) 0 ≡ 0 → judge_further a (some v ∷ ls) ≡ judge_further (inserted a (trial_on v)) ls
+unfolding judge_further
+further-passed a v ls e = in_turn_passed _ (length a.rows + 2) _ e
 
 line_refused : (a : Archive) (l : Option Numbers) (ls : List (Option Numbers)) (k : ℕ) {w left : List ℕ} → EntersLine w l k left
-    → ((t : Trial) → insert-rows (read w) t ≡ admission-rows a t 0) → (k ≡ 0 → ⊥) → judge-further a (l ∷ ls) ≡ refusal k (length a.rows + 2)
-unfolding judge-further
-line_refused a none ls k (row-15 e same) rows n = ap (λ r. refusal r (length a.rows + 2)) (sym e)
-line_refused a (some v) ls k (of-the-form e) rows n =
-    ap (λ r. in-turn r (length a.rows + 2) (judge-further (inserted a (trial_on v)) ls)) (sym (rows (trial_on v)) ∙ sym e.judged)
-    ∙ in-turn-refused k (length a.rows + 2) _ n
+    → ((t : Trial) → insert_rows (read w) t ≡ admission_rows a t 0) → (k ≡ 0 → ⊥) → judge_further a (l ∷ ls) ≡ refusal k (length a.rows + 2)
+unfolding judge_further
+line_refused a none ls k (row_15 e same) rows n = ap (λ r. refusal r (length a.rows + 2)) (sym e)
+line_refused a (some v) ls k (of_the_form e) rows n =
+    ap (λ r. in_turn r (length a.rows + 2) (judge_further (inserted a (trial_on v)) ls)) (sym (rows (trial_on v)) ∙ sym e.judged)
+    ∙ in_turn_refused k (length a.rows + 2) _ n
 
 module _ {card w₁ w : List ℕ} {line : ℕ} (r : Reading card w₁ line w) where
   pub reading-few : line ≤ 514
   reading-few = omega (arith, r.count, few r.so_far r.fair)
 
-  pub reading-passes : archive-rows w 0 ≡ 0
-  reading-passes = Stored.update-passes w₁ w r.so_far 0 r.fair.sound (omega arith) r.words
+  pub reading-passes : archive_rows w 0 ≡ 0
+  reading-passes = Stored.update_passes w₁ w r.so_far 0 r.fair.sound (omega arith) r.words
 
   reads : read w ≡ unfronted r.so_far
-  reads = Stored.update-read w₁ w r.so_far 0 r.fair.sound (omega arith) r.words
+  reads = Stored.update_read w₁ w r.so_far 0 r.fair.sound (omega arith) r.words
 
   behinds : behind w ≡ behind w₁
-  behinds = Stored.update-behind w₁ w r.so_far 0 r.fair.sound (omega arith) r.words
+  behinds = Stored.update_behind w₁ w r.so_far 0 r.fair.sound (omega arith) r.words
 
   -- Row 13 is not given on the way, so the rows of insert are rows 5 to 8.
-  rows : (t : Trial) → insert-rows (read w) t ≡ admission-rows r.so_far t 0
-  rows t = ap (λ a. insert-rows a t) reads ∙ insert-rows-front r.so_far 0 t ∙ insert-rows-fair r.so_far t r.fair.counted
+  rows : (t : Trial) → insert_rows (read w) t ≡ admission_rows r.so_far t 0
+  rows t = ap (λ a. insert_rows a t) reads ∙ insert_rows_front r.so_far 0 t ∙ insert_rows_fair r.so_far t r.fair.counted
 
   -- The next line, and those behind it.
   next-lines : {l : Option Numbers} → Inside card line l → lines (drop (33 * (line - 1)) card) ≡ l ∷ lines (drop (33 * (line + 1 - 1)) card)
   next-lines i =
       let next : line + 1 - 1 ≡ line = omega arith in
-      rw next (lines-due card i)
+      rw next (lines_due card i)
 
   module _ {l : Option Numbers} (i : Inside card line l) {k : ℕ} {after : List ℕ} (e : EntersLine w l k after) where
-    pub reading-more : k ≡ 0 → length after ≡ length w → Reading card w₁ (line + 1) after
-    reading-more done long = go l (next-lines i) e
+    pub reading_more : k ≡ 0 → length after ≡ length w → Reading card w₁ (line + 1) after
+    reading_more done long = go l (next-lines i) e
       where
         go : (l : Option Numbers) → lines (drop (33 * (line - 1)) card) ≡ l ∷ lines (drop (33 * (line + 1 - 1)) card) → EntersLine w l k after → Reading card w₁ (line + 1) after
-        go none here (row-15 e same) = absurd (let no' : ⊥ = omega (arith, e, done) in no')
-        go (some v) here (of-the-form e) =
-            let passes : admission-rows r.so_far (trial_on v) 0 ≡ 0 = sym (rows (trial_on v)) ∙ sym e.judged ∙ done in
+        go none here (row_15 e same) = absurd (let no' : ⊥ = omega (arith, e, done) in no')
+        go (some v) here (of_the_form e) =
+            let passes : admission_rows r.so_far (trial_on v) 0 ≡ 0 = sym (rows (trial_on v)) ∙ sym e.judged ∙ done in
             record {
               second = omega (arith, r.second);
               upto = omega (arith, i.last);
               same = long ∙ r.same;
               so_far = inserted r.so_far (trial_on v);
-              fair = inserted-fair r.so_far (trial_on v) r.fair passes;
+              fair = inserted_fair r.so_far (trial_on v) r.fair passes;
               shaped = inserted-shape r.so_far (trial_on v) ∙ r.shaped;
               words =
                   e.done done ∙ ap₂ (λ a b. layout (fronted a.front (inserted a (trial_on v))) ++ b) reads behinds
-                  ∙ ap (λ a. layout (unfronted a) ++ behind w₁) (inserted-front r.so_far 0 (trial_on v));
-              count = omega (arith, inserted-count r.so_far (trial_on v), r.count);
-              left = r.left ∙ ap (judge-further r.so_far) here ∙ further-passed r.so_far v _ passes;
+                  ∙ ap (λ a. layout (unfronted a) ++ behind w₁) (inserted_front r.so_far 0 (trial_on v));
+              count = omega (arith, inserted_count r.so_far (trial_on v), r.count);
+              left = r.left ∙ ap (judge_further r.so_far) here ∙ further-passed r.so_far v _ passes;
             }
 
-    module _ (before : List ℕ) (begun : load before card ≡ carried-out before (judge-further (read w₁) (lines (drop 33 card)))) where
+    module _ (before : List ℕ) (begun : load before card ≡ carried_out before (judge_further (read w₁) (lines (drop 33 card)))) where
       pub reading-stop : {x : Loaded} {left : List ℕ} → (k ≡ 0 → ⊥) → x ≡ record { refusal = k; line = line; count = 0 } → ReadInto (load before card) x left
       reading-stop other said =
           read-refused before card begun
-          (r.left ∙ ap (judge-further r.so_far) (next-lines i) ∙ line_refused r.so_far l _ k e rows other ∙ ap (refusal k) r.count)
+          (r.left ∙ ap (judge_further r.so_far) (next-lines i) ∙ line_refused r.so_far l _ k e rows other ∙ ap (refusal k) r.count)
           other said
 
-  pub reading-end : {before after : List ℕ} → Started before card w₁ → none ≡ due card line
+  pub reading_end : {before after : List ℕ} → Started before card w₁ → none ≡ due card line
       → after ≡ layout (renewed (read w).shape (read w).sum (read w).rows) ++ behind w
       → ReadInto (load before card) (record { refusal = 0; line = 0; count = line - 2 }) after
-  unfolding empty judge-further
-  reading-end {before} {after} s e counted =
-      let empty : lines (drop (33 * (line - 1)) card) ≡ [] = no-lines-due card {line = line} (omega (arith, r.second)) e in
+  unfolding empty judge_further
+  reading_end {before} {after} s e counted =
+      let empty : lines (drop (33 * (line - 1)) card) ≡ [] = no_lines_due card {line = line} (omega (arith, r.second)) e in
       let capacity : s.shape.capacity ≡ r.so_far.shape.capacity = ap (λ a. a.shape.capacity) (sym (started-reads s)) ∙ ap (λ x. x.capacity) (sym r.shaped) in
       read-accepted before card (started-comes-to s)
-      (r.left ∙ ap (judge-further r.so_far) empty)
+      (r.left ∙ ap (judge_further r.so_far) empty)
       (omega (arith, r.count))
-      (Stored.update-renewed w₁ w r.so_far 0 r.fair.sound (omega arith) r.words after counted r.fair.counted.front
+      (Stored.update_renewed w₁ w r.so_far 0 r.fair.sound (omega arith) r.words after counted r.fair.counted.front
       ∙ ap (λ b. layout r.so_far ++ b) (started-behind s ∙ ap (λ n. drop (extent n) before) capacity))

@@ -14,21 +14,21 @@ use Rattle.slices.specs.Choices.{pick}
 use Rattle.slices.specs.Spread.{Stands}
 use Rattle.slices.proofs.Choices.{both_true}
 use Rattle.hypervolume.specs.Cells.{dominates, join}
-use Rattle.sweep.proofs.Front.{getD-mapped}
-use Rattle.sweep.proofs.Coordinates.{ascending-at}
+use Rattle.sweep.proofs.Front.{getD_mapped}
+use Rattle.sweep.proofs.Coordinates.{ascending_at}
 use Rattle.corners.specs.Limits.{passing, Collecting, Collected}
-use Rattle.corners.proofs.Passing.{corner-within, passing-append, passing-none}
+use Rattle.corners.proofs.Passing.{corner_within, passing_append, passing_none}
 
 -- The corner with the j-th point.
 pub corner-at : (u : List ℕ) (points : List (List ℕ)) (j : ℕ) → j < length points → get_or (map (join u) points) j [] ≡ join u (get_or points j [])
-corner-at u points j l = getD-mapped (join u) [] [] points j l
+corner-at u points j l = getD_mapped (join u) [] [] points j l
 
 -- The loop.
 pub record Gathering (points : List (List ℕ)) (u limit : List ℕ) (corners₀ : List (List ℕ)) (places₀ : List ℕ) (corners : List (List ℕ)) (places : List ℕ) (m i : ℕ) : Type 0 where
   pub asked : Collecting points u limit corners₀ places₀
   pub within : i ≤ length points
-  pub corners-long : length corners ≡ length corners₀
-  pub places-long : length places ≡ length places₀
+  pub corners_long : length corners ≡ length corners₀
+  pub places_long : length places ≡ length places₀
   pub collected : Collected points u limit i corners places m
 
 pub gathering-none : {points : List (List ℕ)} {u limit : List ℕ} {corners : List (List ℕ)} {places : List ℕ} → Collecting points u limit corners places → Gathering points u limit corners places corners places 0 0
@@ -37,8 +37,8 @@ gathering-none h =
     record {
       asked = h;
       within = omega arith;
-      corners-long = refl;
-      places-long = refl;
+      corners_long = refl;
+      places_long = refl;
       collected =
           record {
             few = omega arith;
@@ -75,8 +75,8 @@ module _ {points : List (List ℕ)} {u limit : List ℕ} {corners₀ : List (Lis
   old : Collected points u limit i corners places m
   old = h.collected
 
-  all-many : length all ≡ length points
-  all-many = length-map points (join u)
+  all_many : length all ≡ length points
+  all_many = length-map points (join u)
 
   pub gathering-end : length points ≤ i → Collected points u limit (length points) corners places m
   gathering-end l = let whole : i ≡ length points = omega (arith, h.within) in rw whole at old
@@ -86,22 +86,22 @@ module _ {points : List (List ℕ)} {u limit : List ℕ} {corners₀ : List (Lis
     abbrev p : List ℕ
     p = get_or points i []
 
-    corners-room : m < length corners
-    corners-room = omega (arith, h.corners-long, h.asked.corners-room, old.few)
+    corners_room : m < length corners
+    corners_room = omega (arith, h.corners_long, h.asked.corners_room, old.few)
 
-    places-room : m < length places
-    places-room = omega (arith, h.places-long, h.asked.places-room, old.few)
+    places_room : m < length places
+    places_room = omega (arith, h.places_long, h.asked.places_room, old.few)
 
     here : get_or all i [] ≡ join u p
     here = corner-at u points i l
 
     tested : test (join u p) ≡ test p
-    tested = corner-within u p limit h.asked.above
+    tested = corner_within u p limit h.asked.above
 
     passing-next : (t : Bool) → test p ≡ t → passing test (take (i + 1) all) ≡ passing test (take i all) ++ pick t (join u p ∷ []) []
     unfolding passing
     passing-next t e =
-        rw (add-one i, take-suc all i [] (omega (arith, all-many)), here, passing-append test (take i all) (join u p ∷ []), tested, e)
+        rw (add-one i, take-suc all i [] (omega (arith, all_many)), here, passing_append test (take i all) (join u p ∷ []), tested, e)
 
     pub gathering-skip : {t : List ℕ} {within : Bool} → t ≡ p → within ≡ test t → within ≡ false → Gathering points u limit corners₀ places₀ corners places m (i + 1)
     unfolding pick
@@ -109,8 +109,8 @@ module _ {points : List (List ℕ)} {u limit : List ℕ} {corners₀ : List (Lis
         record {
           asked = h.asked;
           within = omega arith;
-          corners-long = h.corners-long;
-          places-long = h.places-long;
+          corners_long = h.corners_long;
+          places_long = h.places_long;
           collected =
               record {
                 few = omega (arith, old.few);
@@ -138,12 +138,12 @@ module _ {points : List (List ℕ)} {u limit : List ℕ} {corners₀ : List (Lis
         record {
           asked = h.asked;
           within = omega arith;
-          corners-long = ap length put ∙ length-set corners m (join u p) ∙ h.corners-long;
-          places-long = length-set places m i ∙ h.places-long;
+          corners_long = ap length put ∙ length-set corners m (join u p) ∙ h.corners_long;
+          places_long = length-set places m i ∙ h.places_long;
           collected =
               record {
                 few = omega (arith, old.few);
-                all = rw (put, add-one m, take-suc-set corners m (join u p) corners-room, old.all) (sym (passing-next true inside-limit));
+                all = rw (put, add-one m, take-suc-set corners m (join u p) corners_room, old.all) (sym (passing-next true inside-limit));
                 corner = λ k q. corner-of k q (dec_le (suc k) m);
                 inside = λ k q. inside k q (dec_le (suc k) m);
                 rising = λ k q. rising k q (dec_le (suc (suc k)) m);
@@ -161,13 +161,13 @@ module _ {points : List (List ℕ)} {u limit : List ℕ} {corners₀ : List (Lis
         first k a = get_or-set_other places m k i 0 (λ q. omega arith)
 
         last : get_or (set places m i) m 0 ≡ i
-        last = get_or-set_same places m i 0 places-room
+        last = get_or-set_same places m i 0 places_room
 
         corner-of : (k : ℕ) → k < m + 1 → Dec (k < m) → get_or corners' k [] ≡ join u (get_or points (get_or (set places m i) k 0) [])
         corner-of k q (yes a) = rw (put, get_or-set_other corners m k (join u p) [] (λ g. omega arith), first k a) (old.corner k a)
         corner-of k q (no a) =
             let same : k ≡ m = omega arith in
-            rw (put, same, get_or-set_same corners m (join u p) [] corners-room, last)
+            rw (put, same, get_or-set_same corners m (join u p) [] corners_room, last)
 
         inside : (k : ℕ) → k < m + 1 → Dec (k < m) → get_or (set places m i) k 0 < i + 1
         inside k q (yes a) = rw (first k a) (omega (arith, old.inside k a))
@@ -189,8 +189,8 @@ module _ {points : List (List ℕ)} {u limit : List ℕ} {corners₀ : List (Lis
     -- Where p is past the limit on z, so is every later point.
     none_within : length limit ≡ 3 → get_or limit 2 0 < get_or p 2 0 → (j : ℕ) → i ≤ j → j < length points → test (get_or all j []) ≡ false
     none_within e beyond j n o =
-        rw (corner-at u points j o, corner-within u (get_or points j []) limit h.asked.above)
-        (past (get_or points j []) limit 2 (omega arith) (omega (arith, ascending-at h.asked.sorted i j n o)))
+        rw (corner-at u points j o, corner_within u (get_or points j []) limit h.asked.above)
+        (past (get_or points j []) limit 2 (omega arith) (omega (arith, ascending_at h.asked.sorted i j n o)))
 
     pub gathering-stop : {t : List ℕ} → length limit ≡ 3 → t ≡ p → get_or limit 2 0 < get_or t 2 0 → Collected points u limit (length points) corners places m
     gathering-stop {t} e f beyond =
@@ -208,13 +208,13 @@ module _ {points : List (List ℕ)} {u limit : List ℕ} {corners₀ : List (Lis
 
         nothing : passing test (drop i all) ≡ []
         nothing =
-            passing-none test (drop i all)
-            (λ j n. rw (get_or-drop i all j []) (none (i + j) (omega arith) (omega (arith, length-drop i all, all-many))))
+            passing_none test (drop i all)
+            (λ j n. rw (get_or-drop i all j []) (none (i + j) (omega arith) (omega (arith, length-drop i all, all_many))))
 
         behind : passing test (take (length points) all) ≡ passing test (take i all)
         behind =
-            ap (passing test) (take_all (length points) all (omega (arith, all-many)) ∙ sym (take-append-drop i all))
-            ∙ passing-append test (take i all) (drop i all)
+            ap (passing test) (take_all (length points) all (omega (arith, all_many)) ∙ sym (take-append-drop i all))
+            ∙ passing_append test (take i all) (drop i all)
             ∙ rw nothing (append-nil (passing test (take i all)))
 
         every : (j : ℕ) → j < length points → test (get_or all j []) ≡ true → Dec (j < i) → Stands places m j

@@ -14,12 +14,12 @@ use borrow.Author.Tests.{leb-true, le-leb}
 use Rattle.slices.specs.Choices.{pick}
 use Rattle.hypervolume.specs.Cells.{holds, dominates, join}
 use Rattle.hypervolume.specs.Counts.{cover}
-use Rattle.hypervolume.specs.Axes.{axes-within}
-use Rattle.hypervolume.proofs.Points.{axes-most}
-use Rattle.slices.proofs.Choices.{both_true, both-intro}
-use Rattle.hypervolume.proofs.Tests.{holds-implied}
-use Rattle.hypervolume.proofs.Dominance.{cover-append}
-use Rattle.hypervolume.proofs.Skips.{dominates-self}
+use Rattle.hypervolume.specs.Axes.{axes_within}
+use Rattle.hypervolume.proofs.Points.{axes_most}
+use Rattle.slices.proofs.Choices.{both_true, both_intro}
+use Rattle.hypervolume.proofs.Tests.{holds_implied}
+use Rattle.hypervolume.proofs.Dominance.{cover_append}
+use Rattle.hypervolume.proofs.Skips.{dominates_self}
 use Rattle.corners.specs.Limits.{offer, Offered, Limits}
 
 -- `Offers::with`, axis by axis.
@@ -45,13 +45,13 @@ offering-more {least₀} {second₀} {t} {u} {least} {second} {axis} {n} {low} {
       second-long = length-set second axis middle ∙ h.second-long;
       offered =
           record {
-            on-least =
+            on_least =
                 set-upto (λ a. min (get_or least₀ a 0) (offer t u a)) least axis low (omega (arith, h.least-long))
-                (f ∙ ap (min (get_or least₀ axis 0)) e) h.offered.on-least;
-            on-second =
+                (f ∙ ap (min (get_or least₀ axis 0)) e) h.offered.on_least;
+            on_second =
                 set-upto (λ a. min (get_or second₀ a 0) (max (get_or least₀ a 0) (offer t u a))) second axis middle
                 (omega (arith, h.second-long)) (q ∙ ap (min (get_or second₀ axis 0)) (g ∙ ap (max (get_or least₀ axis 0)) e))
-                h.offered.on-second;
+                h.offered.on_second;
           };
     }
 
@@ -65,16 +65,16 @@ raised-dominates [] u a m n l d = refl
 raised-dominates (x ∷ p) [] a m n l d = refl
 raised-dominates (x ∷ p) (y ∷ u) zero m n l d =
     let d' = both_true (leb x m) (dominates p u) d in
-    both-intro (leb x n) (dominates p u) (le-leb x n (le_trans (leb-true x m d'.0) l)) d'.1
+    both_intro (leb x n) (dominates p u) (le-leb x n (le_trans (leb-true x m d'.0) l)) d'.1
 raised-dominates (x ∷ p) (y ∷ u) (suc a) m n l d =
     let d' = both_true (leb x y) (dominates p (set u a m)) d in
-    both-intro (leb x y) (dominates p (set u a n)) d'.0 (raised-dominates p u a m n l d'.1)
+    both_intro (leb x y) (dominates p (set u a n)) d'.0 (raised-dominates p u a m n l d'.1)
 
 raised-cover : (trials : List (List ℕ)) (u : List ℕ) (a m n : ℕ) → m ≤ n → cover trials (set u a m) ≤ cover trials (set u a n)
 unfolding cover
 raised-cover [] u a m n l = omega arith
 raised-cover (t ∷ trials) u a m n l =
-    omega (arith, holds-implied (dominates t (set u a m)) (dominates t (set u a n)) (raised-dominates t u a m n l), raised-cover trials u a m n l)
+    omega (arith, holds_implied (dominates t (set u a m)) (dominates t (set u a n)) (raised-dominates t u a m n l), raised-cover trials u a m n l)
 
 -- What makes an offer is at most u moved along the axis to it.
 moved_back : (t u : List ℕ) (a : ℕ) → dominates (set t a 0) u ≡ true → dominates t (set u a (get_or t a 0)) ≡ true
@@ -82,10 +82,10 @@ unfolding dominates
 moved_back [] u a d = refl
 moved_back (x ∷ t) [] a d = refl
 moved_back (x ∷ t) (y ∷ u) zero d =
-    both-intro (leb x x) (dominates t u) (le-leb x x (omega arith)) (both_true (leb 0 y) (dominates t u) d).1
+    both_intro (leb x x) (dominates t u) (le-leb x x (omega arith)) (both_true (leb 0 y) (dominates t u) d).1
 moved_back (x ∷ t) (y ∷ u) (suc a) d =
     let d' = both_true (leb x y) (dominates (set t a 0) u) d in
-    both-intro (leb x y) (dominates t (set u a (get_or t a 0))) d'.0 (moved_back t u a d'.1)
+    both_intro (leb x y) (dominates t (set u a (get_or t a 0))) d'.0 (moved_back t u a d'.1)
 
 offer-made : (t u : List ℕ) (a : ℕ) → offer t u a < 1048576 → dominates t (set u a (offer t u a)) ≡ true
 unfolding offer pick
@@ -109,7 +109,7 @@ two-least-none =
 
 -- A point more takes nothing away.
 later : (passed more : List (List ℕ)) (c : List ℕ) → cover passed c ≤ cover (passed ++ more) c
-later passed more c = omega (arith, cover-append passed more c)
+later passed more c = omega (arith, cover_append passed more c)
 
 two-least-later : {passed : List (List ℕ)} {u : List ℕ} {a least second : ℕ} (t : List ℕ) → TwoLeast passed u a least second → TwoLeast (passed ++ (t ∷ [])) u a least second
 two-least-later {passed} {u} {a} {least} {second} t h =
@@ -124,7 +124,7 @@ two-least-more {passed} {u} {a} {least} {second} t n h made =
     record { one = λ l. one l (dec_le least n); two = λ l. two l (dec_le second (max least n)) }
   where
     with-t : (limit : ℕ) → cover passed (set u a limit) + holds (dominates t (set u a limit)) ≤ cover (passed ++ (t ∷ [])) (set u a limit)
-    with-t limit = omega (arith, cover-append passed (t ∷ []) (set u a limit))
+    with-t limit = omega (arith, cover_append passed (t ∷ []) (set u a limit))
 
     t-too : (limit : ℕ) → n ≤ limit → limit < 1048576 → holds (dominates t (set u a limit)) ≡ 1
     t-too limit l m = ap holds (raised-dominates t u a n limit l (made (omega arith)))
@@ -155,8 +155,8 @@ join-at (x ∷ p) (y ∷ q) (suc a) = join-at p q a
 join-above : (p q : List ℕ) → dominates p (join p q) ≡ true
 unfolding dominates join
 join-above [] q = refl
-join-above (x ∷ p) [] = dominates-self (x ∷ p)
-join-above (x ∷ p) (y ∷ q) = both-intro (leb x (max x y)) (dominates p (join p q)) (le-leb x (max x y) (omega arith)) (join-above p q)
+join-above (x ∷ p) [] = dominates_self (x ∷ p)
+join-above (x ∷ p) (y ∷ q) = both_intro (leb x (max x y)) (dominates p (join p q)) (le-leb x (max x y) (omega arith)) (join-above p q)
 
 pub join-length : (p q : List ℕ) → length q ≡ length p → length (join p q) ≡ length p
 unfolding join
@@ -227,7 +227,7 @@ module _ {points : List (List ℕ)} {u least second limit : List ℕ} {i : ℕ} 
       on : (a : ℕ) → a < length u → TwoLeast (take (i + 1) points) u a (get_or least' a 0) (get_or second' a 0)
       on a m =
           let inside : a < 3 = omega (arith, h.axes) in
-          rw (next l, ← e, offered.on-least a inside, offered.on-second a inside)
+          rw (next l, ← e, offered.on_least a inside, offered.on_second a inside)
           (two-least-more t (offer t u a) (h.on a m) (offer-made t u a))
 
 pub bounding-past : {points : List (List ℕ)} {u least second limit : List ℕ} (i r : ℕ) → Bounding points u least second limit i → i ≤ r → r ≤ length points → Bounding points u least second limit r
@@ -238,8 +238,8 @@ bounding-past {points} {u} {least} {second} {limit} i (suc r) h l m = go (dec_le
     go (yes n) before = rw (← (add-one r)) (bounding-skip (before n) (omega arith))
     go (no n) before = let last : i ≡ suc r = omega arith in rw (← last) h
 
-pub axes-few : (p q : List ℕ) {n : ℕ} → length p ≡ 3 → n ≡ axes-within p q → n ≤ 3
-axes-few p q e f = omega (arith, axes-most p q)
+pub axes-few : (p q : List ℕ) {n : ℕ} → length p ≡ 3 → n ≡ axes_within p q → n ≤ 3
+axes-few p q e f = omega (arith, axes_most p q)
 
 -- The limits of the first points are limits of all.
 pub bounding-end : {points : List (List ℕ)} {u least second limit : List ℕ} {i : ℕ} → Bounding points u least second limit i → Limits points u limit

@@ -3,8 +3,8 @@
 use Prim.Native.Nat.{ℕ}
 use mathlib.Core.Path.{sym}
 use mathlib.Core.List.{List}
-use Rattle.corners.proofs.UpdateLaws.{updating-collecting, Prepared, some-many, prepared-ready, prepared-enough, prepared-gain, prepared-joints}
-use Rattle.corners.proofs.Covered.{covered-gain, covered-joints}
+use Rattle.corners.proofs.UpdateLaws.{updating_collecting, Prepared, some_many, prepared_ready, prepared_enough, prepared_gain, prepared_joints}
+use Rattle.corners.proofs.Covered.{covered_gain, covered_joints}
 use borrow.Author.Rules.{rules}
 use Rattle.corners.proofs.update.Statement.{statement}
 use Rattle.corners.proofs.update.Tie as tie
@@ -19,10 +19,10 @@ returns : tie.Need-returns
 returns c =
     let start = c.before.before.before.before.before.before in
     let own = c.before.covered.ensures c.if1.true in
-    (covered-gain start.requires.ready.sorted (search rules) (search rules) c.before.before.limits.ensures own.0 own.1 _, covered-joints start.requires.ready.sorted (search rules) (search rules) c.before.before.limits.ensures own.0 own.1 _ _ _)
+    (covered_gain start.requires.ready.sorted (search rules) (search rules) c.before.before.limits.ensures own.0 own.1 _, covered_joints start.requires.ready.sorted (search rules) (search rules) c.before.before.limits.ensures own.0 own.1 _ _ _)
 
 collect-requires : tie.Need-collect-requires
-collect-requires c κs = updating-collecting c.before.before.before.before.before.before.before.before.requires c.before.before.before.before.limits.ensures
+collect-requires c κs = updating_collecting c.before.before.before.before.before.before.before.before.requires c.before.before.before.before.limits.ensures
 
 -- What collecting the corners leaves.
 abbrev start : tie.After-collect → tie.Start
@@ -40,8 +40,8 @@ prepared c =
       asked = (start c.before.before).requires;
       axes = search rules;
       limits = c.before.before.before.before.before.before.before.limits.ensures;
-      corners-long = search rules;
-      places-long = search rules;
+      corners_long = search rules;
+      places_long = search rules;
       collected = c.before.before.collect.ensures;
     }
 
@@ -49,10 +49,10 @@ slice-reshare-prefix-sweep : tie.Need-slice-reshare-prefix-sweep
 slice-reshare-prefix-sweep c = search rules
 
 slice-aggregate-sweep : tie.Need-slice-aggregate-sweep
-slice-aggregate-sweep c = sym (some-many (prepared c.before.before))
+slice-aggregate-sweep c = sym (some_many (prepared c.before.before))
 
 sweep-requires : tie.Need-sweep-requires
-sweep-requires c κs = prepared-ready (prepared c.before.before.before.before)
+sweep-requires c κs = prepared_ready (prepared c.before.before.before.before)
 
 edges-requires : tie.Need-edges-requires
 edges-requires c κs = search rules
@@ -60,7 +60,7 @@ edges-requires c κs = search rules
 sub-t23 : tie.Need-overflow-sub-t23
 sub-t23 c =
     let swept = c.before.before.before.before.before in
-    prepared-enough (prepared c.before.before.before.before.before.before.before.before.before.before) swept.sweep.ensures.0 c.edges.ensures
+    prepared_enough (prepared c.before.before.before.before.before.before.before.before.before.before) swept.sweep.ensures.0 c.edges.ensures
 
 same_length : tie.Need-same-length
 same_length c = search rules
@@ -78,7 +78,7 @@ returns-2 : tie.Need-returns-2
 returns-2 c =
     let swept = c.before.before.before.before.before in
     let here = prepared c.before.before.before.before.before.before.before.before.before.before in
-    (prepared-gain here swept.sweep.ensures.0 c.edges.ensures, prepared-joints here swept.sweep.ensures.1)
+    (prepared_gain here swept.sweep.ensures.0 c.edges.ensures, prepared_joints here swept.sweep.ensures.1)
 
 pub update-spec : {M : Type 1} → statement M
 update-spec =

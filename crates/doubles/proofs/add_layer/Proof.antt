@@ -1,6 +1,6 @@
 -- `doubles::add_layer` meets its contract: the code's two steps are the definition's.
 use Rattle.std.proofs.Common.{refl}
-use Rattle.doubles.specs.Doubles.{with-layer, double}
+use Rattle.doubles.specs.Doubles.{with_layer, double}
 use Rattle.doubles.proofs.Reading.{castable}
 use Rattle.doubles.proofs.add_layer.Statement.{statement}
 use Rattle.doubles.proofs.add_layer.Tie as tie
@@ -12,7 +12,7 @@ int-to-float-result-2 : tie.Need-int-to-float-result-2
 int-to-float-result-2 c = castable c.before.before.args.height c.before.before.requires.1
 
 returns : tie.Need-returns
-unfolding with-layer double
+unfolding with_layer double
 returns c = refl
 
 pub add-layer-spec : {M : Type 1} → statement M

@@ -2,7 +2,7 @@
 use Rattle.std.proofs.Common.{◌≡◌, ℕ, ◌<◌, ◌≤◌, true, false, T, sym, ◌∙◌, subst, le_trans, lit≤}
 use lib.Ieee.{of_bits, neg, eq}
 use Rattle.doubles.specs.Doubles.{double}
-use Rattle.doubles.proofs.Reading.{castable, read-yes, read-other, read-large, read_above, read_below}
+use Rattle.doubles.proofs.Reading.{castable, read_yes, read_other, read_large, read_above, read_below}
 use Rattle.doubles.proofs.number.Statement.{statement}
 use Rattle.doubles.proofs.number.Tie as tie
 
@@ -18,19 +18,19 @@ unfolding double
 returns c =
     let n = c.before.before.before.truncating-f64-to-u64 in
     let x = c.before.before.before.before.before.before.args.x in
-    n.ensures ∙ read-yes x (subst (λ (k : ℕ). k ≤ 1048576) n.ensures c.before.before.if3.true) (subst (λ (k : ℕ). eq (double k) x ≡ true) n.ensures c.if4.true)
+    n.ensures ∙ read_yes x (subst (λ (k : ℕ). k ≤ 1048576) n.ensures c.before.before.if3.true) (subst (λ (k : ℕ). eq (double k) x ≡ true) n.ensures c.if4.true)
 
 returns-2 : tie.Need-returns-2
 unfolding double
 returns-2 c =
     let n = c.before.before.before.truncating-f64-to-u64 in
     let x = c.before.before.before.before.before.before.args.x in
-    read-other x (subst (λ (k : ℕ). eq (double k) x ≡ false) n.ensures c.if4.false)
+    read_other x (subst (λ (k : ℕ). eq (double k) x ≡ false) n.ensures c.if4.false)
 
 returns-3 : tie.Need-returns-3
 returns-3 c =
     let n = c.before.truncating-f64-to-u64 in
-    read-large c.before.before.before.before.args.x (subst (λ (k : ℕ). 1048576 < k) n.ensures c.if3.false)
+    read_large c.before.before.before.before.args.x (subst (λ (k : ℕ). 1048576 < k) n.ensures c.if3.false)
 
 returns-4 : tie.Need-returns-4
 unfolding of_bits neg

@@ -3,7 +3,7 @@ use Prim.Native.Nat.{◌-◌}
 use mathlib.Core.Path.{◌≡◌, sym, ◌∙◌}
 use lib.ListN.{length}
 use borrow.Author.Rules.{rules}
-use Rattle.fleet.proofs.Loops.{Checking, checking-none, checking-stop, checking-room, checking-more, none_left, checking-end}
+use Rattle.fleet.proofs.Loops.{Checking, checking_none, checking_stop, checking_room, checking_more, none_left, checking_end}
 use Rattle.fleet.proofs.check.Statement.{statement}
 use Rattle.fleet.proofs.check.Tie as tie
 
@@ -14,7 +14,7 @@ abbrev decreases-loop : tie.decreases-loop
 decreases-loop w starts₀ at₀ i₀ starts at i = length starts₀ - i
 
 loop-holds : tie.Need-loop-init invariant-loop decreases-loop
-loop-holds c = checking-none _ _
+loop-holds c = checking_none _ _
 
 mul-refusal : tie.Need-overflow-mul-refusal invariant-loop decreases-loop
 mul-refusal c = search rules
@@ -38,7 +38,7 @@ returns : tie.Need-returns invariant-loop decreases-loop
 returns c =
     let inv = c.before.before.before.before.loop.invariant in
     let off : c.before.refusal.result ≡ 0 → ⊥ = c.if1.true in
-    (checking-stop inv c.before.before.before.loop-test.true c.before.refusal.ensures off, λ z. absurd (off z))
+    (checking_stop inv c.before.before.before.loop-test.true c.before.refusal.ensures off, λ z. absurd (off z))
 
 mul-starts : tie.Need-overflow-mul-starts invariant-loop decreases-loop
 mul-starts c = search rules
@@ -57,17 +57,17 @@ mul_at c = search rules
 
 shared-slice-read-at : tie.Need-shared-slice-read-at invariant-loop decreases-loop
 shared-slice-read-at c =
-    let room : _ = checking-room c.before.before.before.before.before.loop.invariant c.before.before.before.before.loop-test.true (sym c.before.before.refusal.ensures ∙ c.before.if1.false) in
+    let room : _ = checking_room c.before.before.before.before.before.loop.invariant c.before.before.before.before.loop-test.true (sym c.before.before.refusal.ensures ∙ c.before.if1.false) in
     search rules
 
 mul-at-2 : tie.Need-overflow-mul-at-2 invariant-loop decreases-loop
 mul-at-2 c =
-    let room : _ = checking-room c.before.before.before.before.before.loop.invariant c.before.before.before.before.loop-test.true (sym c.before.before.refusal.ensures ∙ c.before.if1.false) in
+    let room : _ = checking_room c.before.before.before.before.before.loop.invariant c.before.before.before.before.loop-test.true (sym c.before.before.refusal.ensures ∙ c.before.if1.false) in
     search rules
 
 add-at-3 : tie.Need-overflow-add-at-3 invariant-loop decreases-loop
 add-at-3 c =
-    let room : _ = checking-room c.before.before.before.before.before.loop.invariant c.before.before.before.before.loop-test.true (sym c.before.before.refusal.ensures ∙ c.before.if1.false) in
+    let room : _ = checking_room c.before.before.before.before.before.loop.invariant c.before.before.before.before.loop-test.true (sym c.before.before.refusal.ensures ∙ c.before.if1.false) in
     search rules
 
 add-i : tie.Need-overflow-add-i invariant-loop decreases-loop
@@ -77,7 +77,7 @@ loop-less : tie.Need-loop-smaller invariant-loop decreases-loop
 loop-less c = search rules
 
 loop-again : tie.Need-loop-preserved invariant-loop decreases-loop
-loop-again c = checking-more c.before.before.before.before.before.loop.invariant c.before.before.before.before.loop-test.true (sym c.before.before.refusal.ensures ∙ c.before.if1.false)
+loop-again c = checking_more c.before.before.before.before.before.loop.invariant c.before.before.before.before.loop-test.true (sym c.before.before.refusal.ensures ∙ c.before.if1.false)
 
 same-length-2 : tie.Need-same-length-2 invariant-loop decreases-loop
 same-length-2 c = search rules
@@ -85,7 +85,7 @@ same-length-2 c = search rules
 returns-2 : tie.Need-returns-2 invariant-loop decreases-loop
 returns-2 c =
     let inv = c.before.loop.invariant in
-    (sym (none_left inv c.loop-test.false), λ z. checking-end inv c.loop-test.false)
+    (sym (none_left inv c.loop-test.false), λ z. checking_end inv c.loop-test.false)
 
 pub check-spec : {M : Type 1} → statement M
 check-spec =

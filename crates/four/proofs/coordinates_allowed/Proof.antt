@@ -2,7 +2,7 @@
 use Prim.Native.Nat.{◌-◌}
 use lib.ListN.{length}
 use native.Mathlib.Omega.{arith}
-use Rattle.four.proofs.Rows.{Judged, judged-none, judged-found, judged-more, judged-end}
+use Rattle.four.proofs.Rows.{Judged, judged_none, judged_found, judged_more, judged_end}
 use Rattle.four.proofs.coordinates_allowed.Statement.{statement}
 use Rattle.four.proofs.coordinates_allowed.Tie as tie
 
@@ -13,7 +13,7 @@ abbrev decreases-loop : tie.decreases-loop
 decreases-loop coords i₀ i = length coords - i
 
 loop-holds : tie.Need-loop-init invariant-loop decreases-loop
-loop-holds c = judged-none _
+loop-holds c = judged_none _
 
 mul-if1 : tie.Need-overflow-mul-if1 invariant-loop decreases-loop
 mul-if1 c = omega arith
@@ -22,7 +22,7 @@ shared-slice-read-if1 : tie.Need-shared-slice-read-if1 invariant-loop decreases-
 shared-slice-read-if1 c = omega arith
 
 returns : tie.Need-returns invariant-loop decreases-loop
-returns c = judged-found c.before.before.before.loop.invariant c.before.before.loop-test.true c.if1.true
+returns c = judged_found c.before.before.before.loop.invariant c.before.before.loop-test.true c.if1.true
 
 add-i : tie.Need-overflow-add-i invariant-loop decreases-loop
 add-i c = omega arith
@@ -31,10 +31,10 @@ loop-less : tie.Need-loop-smaller invariant-loop decreases-loop
 loop-less c = omega arith
 
 loop-again : tie.Need-loop-preserved invariant-loop decreases-loop
-loop-again c = judged-more c.before.before.before.loop.invariant c.before.before.loop-test.true c.if1.false
+loop-again c = judged_more c.before.before.before.loop.invariant c.before.before.loop-test.true c.if1.false
 
 returns-2 : tie.Need-returns-2 invariant-loop decreases-loop
-returns-2 c = judged-end c.before.loop.invariant c.loop-test.false
+returns-2 c = judged_end c.before.loop.invariant c.loop-test.false
 
 pub coordinates-allowed-spec : {M : Type 1} → statement M
 coordinates-allowed-spec =

@@ -1,7 +1,7 @@
 -- `reference_allowed` meets its contract.
 use borrow.Author.Rules.{rules}
 use Rattle.words.specs.Format.{within}
-use Rattle.four.proofs.Rows.{each-four}
+use Rattle.four.proofs.Rows.{each_four}
 use Rattle.four.proofs.reference_allowed.Statement.{statement}
 use Rattle.four.proofs.reference_allowed.Tie as tie
 
@@ -29,7 +29,7 @@ both-requires-3 c κs = search rules
 returns : tie.Need-returns
 returns c =
     let args = c.before.before.before.before.before.before.before.args in
-    cc (each-four (within 1 32768) args.rx args.ry args.rz args.rw)
+    cc (each_four (within 1 32768) args.rx args.ry args.rz args.rw)
 
 pub reference-allowed-spec : {M : Type 1} → statement M
 reference-allowed-spec =

@@ -43,9 +43,9 @@ returns c =
       told =
           c.before.before.before.before.before.before.before.before.before.before.before.before.at_most.ensures ∙ ap (λ k. holds (leb k c.before.before.before.before.before.before.before.before.before.before.before.before.before.least.result)) (add-one c.before.before.before.before.before.before.before.before.before.before.before.before.before.before.before.before.before.before.before.before.before.args.y)
           ∙ ap (λ m. holds (ltb c.before.before.before.before.before.before.before.before.before.before.before.before.before.before.before.before.before.before.before.before.before.args.y m)) c.before.before.before.before.before.before.before.before.before.before.before.before.before.least.ensures;
-      in-high = c.before.before.before.before.before.before.before.before.before.before.lower.ensures;
-      in-middle = c.before.before.before.before.before.before.lower2.ensures;
-      in-low = c.before.before.lower3.ensures;
+      in_high = c.before.before.before.before.before.before.before.before.before.before.lower.ensures;
+      in_middle = c.before.before.before.before.before.before.lower2.ensures;
+      in_low = c.before.before.lower3.ensures;
     }
 
 pub enter_spec : {M : Type 1} → statement M

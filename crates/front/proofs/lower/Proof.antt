@@ -3,7 +3,7 @@ use Prim.Native.Nat.{◌-◌}
 use mathlib.Core.Path.{refl}
 use native.Mathlib.Omega.{arith}
 use borrow.Author.Rules.{rules}
-use Rattle.front.proofs.Levels.{Lowering, lowering-none, lowering-more, lowering-end, extra-bound}
+use Rattle.front.proofs.Levels.{Lowering, lowering_none, lowering_more, lowering_end, extra_bound}
 use Rattle.front.proofs.lower.Statement.{statement}
 use Rattle.front.proofs.lower.Tie as tie
 
@@ -20,7 +20,7 @@ sub-from : tie.Need-overflow-sub-from invariant-loop decreases-loop
 sub-from c = search rules
 
 loop-holds : tie.Need-loop-init invariant-loop decreases-loop
-loop-holds c = lowering-none _ _ _
+loop-holds c = lowering_none _ _ _
 
 add-v : tie.Need-overflow-add-v invariant-loop decreases-loop
 add-v c = search rules
@@ -41,7 +41,7 @@ shared-slice-read-lowered : tie.Need-shared-slice-read-lowered invariant-loop de
 shared-slice-read-lowered c = search rules
 
 lowered-requires : tie.Need-lowered-requires invariant-loop decreases-loop
-lowered-requires c κs = (c.before.before.before.before.before.before.requires.3, extra-bound c.before.before.before.before.before.before.requires.4 _)
+lowered-requires c κs = (c.before.before.before.before.before.before.requires.3, extra_bound c.before.before.before.before.before.before.requires.4 _)
 
 mul-level : tie.Need-overflow-mul-level invariant-loop decreases-loop
 mul-level c = search rules
@@ -57,14 +57,14 @@ loop-less c = omega arith
 
 loop-again : tie.Need-loop-preserved invariant-loop decreases-loop
 loop-again c =
-    lowering-more _ _ c.before.before.before.before.before.before.before.requires.2 c.before.before.before.before.before.before.before.requires.4 c.before.before.before.before.loop.invariant c.before.before.before.loop-test.true refl
+    lowering_more _ _ c.before.before.before.before.before.before.before.requires.2 c.before.before.before.before.before.before.before.requires.4 c.before.before.before.before.loop.invariant c.before.before.before.loop-test.true refl
     (omega (arith, c.before.before.before.before.before.before.before.requires.0, c.before.before.before.before.before.before.before.requires.1, c.before.before.before.loop-test.true)) c.lowered.ensures
 
 same_length : tie.Need-same-length invariant-loop decreases-loop
 same_length c = c.before.loop.invariant.long
 
 returns : tie.Need-returns invariant-loop decreases-loop
-returns c = lowering-end c.before.loop.invariant c.loop-test.false
+returns c = lowering_end c.before.loop.invariant c.loop-test.false
 
 pub lower_spec : {M : Type 1} → statement M
 lower_spec =

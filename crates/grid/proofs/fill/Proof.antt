@@ -3,8 +3,8 @@
 use Prim.Native.Nat.{◌-◌}
 use mathlib.Core.Path.{refl, sym, ◌∙◌}
 use native.Mathlib.Omega.{arith}
-use Rattle.ask.proofs.Arrays.{Arrays, room, arrays-kept}
-use Rattle.grid.proofs.Filling.{Entered, none-entered, entered-more, entered-stop, entered_all}
+use Rattle.ask.proofs.Arrays.{Arrays, room, arrays_kept}
+use Rattle.grid.proofs.Filling.{Entered, none_entered, entered_more, entered_stop, entered_all}
 use Rattle.grid.proofs.fill.Statement.{statement}
 use Rattle.grid.proofs.fill.Tie as tie
 
@@ -16,25 +16,25 @@ abbrev decreases-loop : tie.decreases-loop
 decreases-loop w₀ grid points₀ corners₀ places₀ line₀ counts₀ n i₀ w points corners places line counts i = n - i
 
 loop-holds : tie.Need-loop-init invariant-loop decreases-loop
-loop-holds c = (none-entered _ _ c.before.before.requires, record { points-long = refl; corners-long = refl; places-long = refl; line-long = refl; counts-long = refl })
+loop-holds c = (none_entered _ _ c.before.before.requires, record { points_long = refl; corners_long = refl; places_long = refl; line_long = refl; counts_long = refl })
 
 trial-at-requires : tie.Need-trial-at-requires invariant-loop decreases-loop
 trial-at-requires c κs = omega (arith, c.before.loop-test.true)
 
 slice-aggregate-enter : tie.Need-slice-aggregate-enter invariant-loop decreases-loop
-slice-aggregate-enter c = sym c.before.before.before.before.loop.invariant.1.points-long
+slice-aggregate-enter c = sym c.before.before.before.before.loop.invariant.1.points_long
 
 slice-aggregate-enter-2 : tie.Need-slice-aggregate-enter-2 invariant-loop decreases-loop
-slice-aggregate-enter-2 c = sym c.before.before.before.before.before.loop.invariant.1.corners-long
+slice-aggregate-enter-2 c = sym c.before.before.before.before.before.loop.invariant.1.corners_long
 
 slice-aggregate-enter-3 : tie.Need-slice-aggregate-enter-3 invariant-loop decreases-loop
-slice-aggregate-enter-3 c = sym c.before.before.before.before.before.before.loop.invariant.1.places-long
+slice-aggregate-enter-3 c = sym c.before.before.before.before.before.before.loop.invariant.1.places_long
 
 slice-aggregate-enter-4 : tie.Need-slice-aggregate-enter-4 invariant-loop decreases-loop
-slice-aggregate-enter-4 c = sym c.before.before.before.before.before.before.before.loop.invariant.1.line-long
+slice-aggregate-enter-4 c = sym c.before.before.before.before.before.before.before.loop.invariant.1.line_long
 
 slice-aggregate-enter-5 : tie.Need-slice-aggregate-enter-5 invariant-loop decreases-loop
-slice-aggregate-enter-5 c = sym c.before.before.before.before.before.before.before.before.loop.invariant.1.counts-long
+slice-aggregate-enter-5 c = sym c.before.before.before.before.before.before.before.before.loop.invariant.1.counts_long
 
 enter-requires : tie.Need-enter-requires invariant-loop decreases-loop
 enter-requires c κs = (c.before.before.before.before.before.before.before.before.loop.invariant.0.passes, room c.before.before.before.before.before.before.before.before.loop.invariant.1)
@@ -43,7 +43,7 @@ same_length : tie.Need-same-length invariant-loop decreases-loop
 same_length c = c.before.before.before.before.before.before.before.before.enter.auto.0 ∙ c.before.before.before.before.before.before.before.before.before.before.before.before.before.before.before.before.before.loop.invariant.0.same
 
 returns : tie.Need-returns invariant-loop decreases-loop
-returns c = entered-stop c.before.before.before.before.before.before.before.before.before.before.before.before.before.before.before.before.before.loop.invariant.0 c.before.before.before.before.before.before.before.before.before.before.before.before.before.before.before.before.loop-test.true c.before.before.before.before.before.before.before.before.before.before.before.before.before.before.trial-at.ensures c.before.before.before.before.before.before.before.before.enter.ensures c.if1.true
+returns c = entered_stop c.before.before.before.before.before.before.before.before.before.before.before.before.before.before.before.before.before.loop.invariant.0 c.before.before.before.before.before.before.before.before.before.before.before.before.before.before.before.before.loop-test.true c.before.before.before.before.before.before.before.before.before.before.before.before.before.before.trial-at.ensures c.before.before.before.before.before.before.before.before.enter.ensures c.if1.true
 
 add-i : tie.Need-overflow-add-i invariant-loop decreases-loop
 add-i c = omega (arith, c.before.before.before.before.before.before.before.before.before.before.before.before.before.before.before.before.loop-test.true)
@@ -54,8 +54,8 @@ loop-less c = omega (arith, c.before.before.before.before.before.before.before.b
 loop-again : tie.Need-loop-preserved invariant-loop decreases-loop
 loop-again c =
     let kept = c.before.before.before.before.before.before.before.before.enter.auto in (
-      entered-more c.before.before.before.before.before.before.before.before.before.before.before.before.before.before.before.before.before.loop.invariant.0 c.before.before.before.before.before.before.before.before.before.before.before.before.before.before.before.before.loop-test.true c.before.before.before.before.before.before.before.before.before.before.before.before.before.before.trial-at.ensures c.before.before.before.before.before.before.before.before.enter.ensures c.if1.false kept.0,
-      arrays-kept c.before.before.before.before.before.before.before.before.before.before.before.before.before.before.before.before.before.loop.invariant.1 kept.1.1.0 kept.1.1.1.0 kept.1.1.1.1.0 kept.1.1.1.1.1.0 kept.1.1.1.1.1.1.0,
+      entered_more c.before.before.before.before.before.before.before.before.before.before.before.before.before.before.before.before.before.loop.invariant.0 c.before.before.before.before.before.before.before.before.before.before.before.before.before.before.before.before.loop-test.true c.before.before.before.before.before.before.before.before.before.before.before.before.before.before.trial-at.ensures c.before.before.before.before.before.before.before.before.enter.ensures c.if1.false kept.0,
+      arrays_kept c.before.before.before.before.before.before.before.before.before.before.before.before.before.before.before.before.before.loop.invariant.1 kept.1.1.0 kept.1.1.1.0 kept.1.1.1.1.0 kept.1.1.1.1.1.0 kept.1.1.1.1.1.1.0,
     )
 
 same-length-2 : tie.Need-same-length-2 invariant-loop decreases-loop

@@ -1,7 +1,7 @@
 -- `trial_at` meets its contract: four words from the place on.
 use Prim.Native.Nat.{◌*◌}
 use borrow.Author.Rules.{rules}
-use Rattle.grid.proofs.Filling.{trial-words}
+use Rattle.grid.proofs.Filling.{trial_words}
 use Rattle.grid.proofs.trial_at.Statement.{statement}
 use Rattle.grid.proofs.trial_at.Tie as tie
 
@@ -42,7 +42,7 @@ shared-slice-read-z : tie.Need-shared-slice-read-z
 shared-slice-read-z c = search rules
 
 returns : tie.Need-returns
-returns c = trial-words c.before.before.before.before.args.grid.now (4 * c.before.before.before.before.args.i)
+returns c = trial_words c.before.before.before.before.args.grid.now (4 * c.before.before.before.before.args.i)
 
 pub trial-at-spec : {M : Type 1} → statement M
 trial-at-spec =

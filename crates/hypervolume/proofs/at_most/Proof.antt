@@ -1,5 +1,5 @@
 -- `at_most` meets its contract.
-use Rattle.hypervolume.proofs.Points.{at-most-bit}
+use Rattle.hypervolume.proofs.Points.{at_most_bit}
 use borrow.Author.Rules.{rules}
 use Rattle.hypervolume.proofs.at_most.Statement.{statement}
 use Rattle.hypervolume.proofs.at_most.Tie as tie
@@ -14,7 +14,7 @@ cast-result : tie.Need-overflow-cast-result
 cast-result c = search rules
 
 returns : tie.Need-returns
-returns c = at-most-bit _ _ c.ranges.x.fits c.ranges.y.fits
+returns c = at_most_bit _ _ c.ranges.x.fits c.ranges.y.fits
 
 pub at-most-spec : {M : Type 1} → statement M
 at-most-spec = tie.close (tie.spec add-result sub-result cast-result returns)

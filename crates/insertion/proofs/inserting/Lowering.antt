@@ -7,68 +7,68 @@ use native.Mathlib.Omega.{arith}
 use lib.Dec.{ltb}
 use borrow.Author.Tests.{lt-ltb, le-ltb}
 use lib.ListN.{length, take}
-use Rattle.hypervolume.proofs.Counting.{gain-le-box}
+use Rattle.hypervolume.proofs.Counting.{gain_le_box}
 use Rattle.corners.specs.declared.Updated.{Updated}
 use Rattle.words.specs.Archive.{Trial, point}
 use Rattle.slices.specs.Choices.{either}
-use Rattle.slices.specs.Amounts.{some_pair, Placed, amounts-at}
+use Rattle.slices.specs.Amounts.{some_pair, Placed, amounts_at}
 use Rattle.words.specs.Layout.{read, word}
-use Rattle.words.specs.Format.{archive-rows}
+use Rattle.words.specs.Format.{archive_rows}
 use Rattle.words.specs.Places.{rows_before}
-use Rattle.calls.specs.Calls.{reference-of, held-points, box_of, insert-gain, falls_below, insert-overruns}
+use Rattle.calls.specs.Calls.{reference_of, held_points, box_of, insert_gain, falls_below, insert_overruns}
 use Rattle.records.specs.Columns.{column}
 use Rattle.ask.specs.RecordCounts.{CountedJoints}
-use Rattle.ask.proofs.CountedAmounts.{all-gain, all-shares, all-rows, counted-few, counted-placed}
+use Rattle.ask.proofs.CountedAmounts.{all_gain, all_shares, all_rows, counted_few, counted_placed}
 use Rattle.insertion.specs.Inserting.{InsertShares, InsertAmounts}
-use Rattle.calls.proofs.Known.{known, count-rows}
-use Rattle.records.proofs.MovedAmounts.{falls-below-pairs}
+use Rattle.calls.proofs.Known.{known, count_rows}
+use Rattle.records.proofs.MovedAmounts.{falls_below_pairs}
 
 -- What counting leaves, as the amounts of an insertion.
-module _ {w : List ℕ} (t : Trial) {q places counts : List ℕ} {r : Updated} (p : archive-rows w 0 ≡ 0) (here : q ≡ point t) (c : CountedJoints w (word w 0) q places counts r) (l : 512 ≤ length places) (m : 512 ≤ length counts) where
+module _ {w : List ℕ} (t : Trial) {q places counts : List ℕ} {r : Updated} (p : archive_rows w 0 ≡ 0) (here : q ≡ point t) (c : CountedJoints w (word w 0) q places counts r) (l : 512 ≤ length places) (m : 512 ≤ length counts) where
   pub counted-shares : InsertShares w t (take r.moved places) (take r.moved counts)
   counted-shares =
-      let all : length (read w).rows ≡ word w 0 = count-rows w in
+      let all : length (read w).rows ≡ word w 0 = count_rows w in
       record {
-        placed = subst (λ n. Placed n (take r.moved places) (take r.moved counts)) (ap length (sym (all-rows w (word w 0) refl)) ∙ all) (counted-placed p c l m);
-        shared = ap (λ n. amounts-at n (take r.moved places) (take r.moved counts)) (sym all) ∙ sym (all-shares t here c).is-spread;
+        placed = subst (λ n. Placed n (take r.moved places) (take r.moved counts)) (ap length (sym (all_rows w (word w 0) refl)) ∙ all) (counted_placed p c l m);
+        shared = ap (λ n. amounts_at n (take r.moved places) (take r.moved counts)) (sym all) ∙ sym (all_shares t here c).is_spread;
       }
 
   -- the ways out
   module _ (cells : ℕ) (boxed : cells ≡ box_of (read w)) where
-    gained : r.gain ≡ insert-gain (read w) t
-    gained = all-gain t here c
+    gained : r.gain ≡ insert_gain (read w) t
+    gained = all_gain t here c
 
     pub judged-over : cells < word w 5 + r.gain → InsertAmounts w t places counts (record { amount = r.gain; places = r.moved; fits = false })
-    unfolding insert-overruns either not read
+    unfolding insert_overruns either not read
     judged-over k =
         record {
           gained = gained;
-          judged = sym (ap not (ap (λ x. either x (falls_below (read w) t (read w).rows)) (lt-ltb (box_of (read w)) (word w 5 + insert-gain (read w) t) (let s : box_of (read w) < word w 5 + insert-gain (read w) t = rw (← boxed, ← gained) k in s))));
-          few = counted-few p c;
+          judged = sym (ap not (ap (λ x. either x (falls_below (read w) t (read w).rows)) (lt-ltb (box_of (read w)) (word w 5 + insert_gain (read w) t) (let s : box_of (read w) < word w 5 + insert_gain (read w) t = rw (← boxed, ← gained) k in s))));
+          few = counted_few p c;
           lowers = counted-shares;
         }
 
-    behind-box : word w 5 + r.gain ≤ cells → insert-overruns (read w) t ≡ falls_below (read w) t (read w).rows
-    unfolding insert-overruns either read
+    behind-box : word w 5 + r.gain ≤ cells → insert_overruns (read w) t ≡ falls_below (read w) t (read w).rows
+    unfolding insert_overruns either read
     behind-box k =
         ap (λ x. either x (falls_below (read w) t (read w).rows))
-        (le-ltb (box_of (read w)) (word w 5 + insert-gain (read w) t) (let s : word w 5 + insert-gain (read w) t ≤ box_of (read w) = rw (← boxed, ← gained) k in s))
+        (le-ltb (box_of (read w)) (word w 5 + insert_gain (read w) t) (let s : word w 5 + insert_gain (read w) t ≤ box_of (read w) = rw (← boxed, ← gained) k in s))
 
     pub judged-each : (b : Bool) → word w 5 + r.gain ≤ cells
-        → b ≡ not (some_pair (λ v m. ltb v m) (column 4 (rows_before w (word w 0))) (amounts-at (word w 0) (take r.moved places) (take r.moved counts)))
+        → b ≡ not (some_pair (λ v m. ltb v m) (column 4 (rows_before w (word w 0))) (amounts_at (word w 0) (take r.moved places) (take r.moved counts)))
         → InsertAmounts w t places counts (record { amount = r.gain; places = r.moved; fits = b })
     unfolding read
     judged-each b k e =
         record {
           gained = gained;
-          judged = e ∙ sym (ap not (behind-box k ∙ falls-below-pairs (read w) t (read w).rows ∙ ap (some_pair (λ v m. ltb v m) (column 4 (read w).rows)) (sym counted-shares.shared)));
-          few = counted-few p c;
+          judged = e ∙ sym (ap not (behind-box k ∙ falls_below_pairs (read w) t (read w).rows ∙ ap (some_pair (λ v m. ltb v m) (column 4 (read w).rows)) (sym counted-shares.shared)));
+          few = counted_few p c;
           lowers = counted-shares;
         }
 
 -- The kept total and a gain are both at most the box, so their sum fits a word.
-pub gain-fits : (w : List ℕ) (t : Trial) (r : ℕ) → archive-rows w 0 ≡ 0 → r ≡ insert-gain (read w) t → word w 5 + r ≤ 2305843009213693952
-unfolding insert-gain read
+pub gain-fits : (w : List ℕ) (t : Trial) (r : ℕ) → archive_rows w 0 ≡ 0 → r ≡ insert_gain (read w) t → word w 5 + r ≤ 2305843009213693952
+unfolding insert_gain read
 gain-fits w t r p e =
-    let most : insert-gain (read w) t ≤ box_of (read w) = gain-le-box (reference-of (read w)) (held-points (read w)) (point t) in
+    let most : insert_gain (read w) t ≤ box_of (read w) = gain_le_box (reference_of (read w)) (held_points (read w)) (point t) in
     omega (arith, known w p)

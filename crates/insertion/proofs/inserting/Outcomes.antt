@@ -7,16 +7,16 @@ use native.Mathlib.Omega.{arith}
 use Rattle.words.specs.Archive.{Trial}
 use Rattle.slices.specs.Choices.{pick}
 use Rattle.words.specs.Layout.{layout, read, behind}
-use Rattle.words.specs.Format.{guard, archive-rows}
-use Rattle.calls.specs.Calls.{insert-overruns, admission-rows, insert-rows, inserted}
+use Rattle.words.specs.Format.{guard, archive_rows}
+use Rattle.calls.specs.Calls.{insert_overruns, admission_rows, insert_rows, inserted}
 use Rattle.calls.specs.Lent.{Outcome, insert}
-use Rattle.calls.proofs.Answers.{rows-refused, rows-passed, leaves-refused, leaves-done, outcome-refused}
+use Rattle.calls.proofs.Answers.{rows_refused, rows_passed, leaves_refused, leaves_done, outcome_refused}
 use Rattle.insertion.specs.Inserting.{entered, Enters}
 use Rattle.insertion.proofs.inserting.Admitting.{admitted, admission-same}
 
 -- The ways out of `enter`: turned down by rows 5 to 8, or by row 13, or entered.
-pub enter-turned : (w : List ℕ) (t : Trial) (r : ℕ) → r ≡ admission-rows (read w) t 0 → (r ≡ 0 → ⊥) → Enters w t r w
-unfolding insert-rows
+pub enter-turned : (w : List ℕ) (t : Trial) (r : ℕ) → r ≡ admission_rows (read w) t 0 → (r ≡ 0 → ⊥) → Enters w t r w
+unfolding insert_rows
 enter-turned w t r e n =
     record {
       judged = e ∙ sym (admission-same (read w) t _ (λ z. n (e ∙ z)));
@@ -24,16 +24,16 @@ enter-turned w t r e n =
       refused = λ other. refl;
     }
 
-pub enter-put : (w left : List ℕ) (t : Trial) (r : ℕ) → archive-rows w 0 ≡ 0 → admission-rows (read w) t 0 ≡ 0
-    → r ≡ guard (insert-overruns (read w) t) 13 0 → left ≡ pick (insert-overruns (read w) t) w (entered w t)
+pub enter-put : (w left : List ℕ) (t : Trial) (r : ℕ) → archive_rows w 0 ≡ 0 → admission_rows (read w) t 0 ≡ 0
+    → r ≡ guard (insert_overruns (read w) t) 13 0 → left ≡ pick (insert_overruns (read w) t) w (entered w t)
     → Enters w t r left
-unfolding insert-rows guard pick
-enter-put w left t r p a e l = go (insert-overruns (read w) t) refl e l
+unfolding insert_rows guard pick
+enter-put w left t r p a e l = go (insert_overruns (read w) t) refl e l
   where
-    rows : (b : Bool) → insert-overruns (read w) t ≡ b → insert-rows (read w) t ≡ guard b 13 0
+    rows : (b : Bool) → insert_overruns (read w) t ≡ b → insert_rows (read w) t ≡ guard b 13 0
     rows b q = (admitted w t p a).onward _ ∙ ap (λ x. guard x 13 0) q
 
-    go : (b : Bool) → insert-overruns (read w) t ≡ b → r ≡ guard b 13 0 → left ≡ pick b w (entered w t) → Enters w t r left
+    go : (b : Bool) → insert_overruns (read w) t ≡ b → r ≡ guard b 13 0 → left ≡ pick b w (entered w t) → Enters w t r left
     go true q e l =
         record {
           judged = e ∙ sym (rows true q);
@@ -47,20 +47,20 @@ pub enter-same : (w left : List ℕ) (r : ℕ) {t u : Trial} → t ≡ u → Ent
 enter-same w left r e h = subst (λ t. Enters w t r left) e h
 
 -- The ways out of `insert`: refused by rows 1 to 3, or by a row of its own, or done.
-pub insert-refused : (w : List ℕ) (t : Trial) (r : ℕ) → r ≡ archive-rows w 0 → (r ≡ 0 → ⊥) → (r ≡ (insert w t).refusal) × (w ≡ (insert w t).words)
+pub insert-refused : (w : List ℕ) (t : Trial) (r : ℕ) → r ≡ archive_rows w 0 → (r ≡ 0 → ⊥) → (r ≡ (insert w t).refusal) × (w ≡ (insert w t).words)
 unfolding insert
 insert-refused w t r e n =
-    outcome-refused (insert w t) w [] r (leaves-refused w [] _ r _ _ _ (rows-refused w r (insert-rows (read w) t) e n) n)
+    outcome_refused (insert w t) w [] r (leaves_refused w [] _ r _ _ _ (rows_refused w r (insert_rows (read w) t) e n) n)
 
-module _ (w : List ℕ) (t : Trial) (p : archive-rows w 0 ≡ 0) where
+module _ (w : List ℕ) (t : Trial) (p : archive_rows w 0 ≡ 0) where
   pub insert-turned : {left : List ℕ} {r : ℕ} → Enters w t r left → (r ≡ 0 → ⊥) → (r ≡ (insert w t).refusal) × (left ≡ (insert w t).words)
   unfolding insert
   insert-turned {left} {r} h n =
-      let o = outcome-refused (insert w t) w [] r (leaves-refused w [] _ r _ _ _ (rows-passed w _ p ∙ sym h.judged) n) in
+      let o = outcome_refused (insert w t) w [] r (leaves_refused w [] _ r _ _ _ (rows_passed w _ p ∙ sym h.judged) n) in
       (o.0, h.refused n ∙ o.1)
 
-  pub insert-done : {left : List ℕ} → insert-rows (read w) t ≡ 0 → left ≡ layout (inserted (read w) t) ++ behind w → (◌≡◌ {A = ℕ} 0 (insert w t).refusal) × (left ≡ (insert w t).words)
+  pub insert_done : {left : List ℕ} → insert_rows (read w) t ≡ 0 → left ≡ layout (inserted (read w) t) ++ behind w → (◌≡◌ {A = ℕ} 0 (insert w t).refusal) × (left ≡ (insert w t).words)
   unfolding insert
-  insert-done e l =
-      let o = leaves-done w [] (archive-rows w (insert-rows (read w) t)) 0 (layout (inserted (read w) t) ++ behind w) [] (rows-passed w _ p ∙ e) in
+  insert_done e l =
+      let o = leaves_done w [] (archive_rows w (insert_rows (read w) t)) 0 (layout (inserted (read w) t) ++ behind w) [] (rows_passed w _ p ∙ e) in
       (sym (ap (λ (x : Outcome). x.refusal) o), l ∙ sym (ap (λ (x : Outcome). x.words) o))

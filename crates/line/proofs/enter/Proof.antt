@@ -1,6 +1,6 @@
 -- `enter` meets its contract.
 use mathlib.Core.Path.{refl}
-use Rattle.line.proofs.EnterLaws.{entering-thinning, entered-not, entered-more, entered-room}
+use Rattle.line.proofs.EnterLaws.{entering_thinning, entered_not, entered_more, entered_room}
 use borrow.Author.Rules.{rules}
 use Rattle.line.proofs.enter.Statement.{statement}
 use Rattle.line.proofs.enter.Tie as tie
@@ -9,10 +9,10 @@ y-of-requires : tie.Need-y-of-requires
 y-of-requires c κs = search rules
 
 returns : tie.Need-returns
-returns c = λ ry state. entered-not c.before.before.before.before.requires state c.before.before.y_of.ensures c.if1.true
+returns c = λ ry state. entered_not c.before.before.before.before.requires state c.before.before.y_of.ensures c.if1.true
 
 thin-requires : tie.Need-thin-requires
-thin-requires c κs = entering-thinning c.before.before.before.before.before.requires
+thin-requires c κs = entering_thinning c.before.before.before.before.before.requires
 
 flag-where-requires : tie.Need-flag-where-requires
 flag-where-requires c κs = search rules
@@ -42,7 +42,7 @@ returns-2 c =
     let same = placed.before.before in
     let flag = same.before in
     λ ry state.
-    entered-more (named flag).before.before.requires state (named flag).y_of.ensures (other flag).if1.false (thinned flag).thin.ensures refl same.if2.true
+    entered_more (named flag).before.before.requires state (named flag).y_of.ensures (other flag).if1.false (thinned flag).thin.ensures refl same.if2.true
     (rw flag.flag-where.ensures at placed.place.ensures)
 
 place-requires-2 : tie.Need-place-requires-2
@@ -64,7 +64,7 @@ returns-3 c =
     let gap = placed.before.before in
     let flag = gap.before in
     λ ry state.
-    entered-room (named flag).before.before.requires state (named flag).y_of.ensures (other flag).if1.false (thinned flag).thin.ensures refl gap.if2.false
+    entered_room (named flag).before.before.requires state (named flag).y_of.ensures (other flag).if1.false (thinned flag).thin.ensures refl gap.if2.false
     (rw flag.flag-where.ensures at placed.place2.ensures)
     closed.close.ensures
 

@@ -3,8 +3,8 @@ use Prim.Native.Nat.{◌≤◌}
 use mathlib.Core.Path.{refl}
 use native.Mathlib.Omega.{arith}
 use Rattle.line.specs.Line.{Between}
-use Rattle.hypervolume.proofs.Tests.{holds-small}
-use Rattle.line.proofs.RankLaws.{between-all, between_more, between-fits}
+use Rattle.hypervolume.proofs.Tests.{holds_small}
+use Rattle.line.proofs.RankLaws.{between_all, between_more, between_fits}
 use borrow.Author.Rules.{rules}
 use Rattle.line.proofs.narrow.Statement.{statement}
 use Rattle.line.proofs.narrow.Tie as tie
@@ -16,7 +16,7 @@ abbrev decreases-loop : tie.decreases-loop
 decreases-loop line x low₀ size₀ low size = size
 
 loop-holds : tie.Need-loop-init invariant-loop decreases-loop
-loop-holds c = between-all _ _ c.before.requires.0
+loop-holds c = between_all _ _ c.before.requires.0
 
 add-part : tie.Need-overflow-add-part invariant-loop decreases-loop
 add-part c = search rules
@@ -77,13 +77,13 @@ turn c = c.before.before.before.before.before.before
 
 -- each answer is 0 or 1
 one : (c : tie.After-reaches3 invariant-loop decreases-loop) → c.before.before.before.before.reaches.result ≤ 1
-one c = holds-small _ c.before.before.before.before.reaches.ensures
+one c = holds_small _ c.before.before.before.before.reaches.ensures
 
 two : (c : tie.After-reaches3 invariant-loop decreases-loop) → c.before.before.reaches2.result ≤ 1
-two c = holds-small _ c.before.before.reaches2.ensures
+two c = holds_small _ c.before.before.reaches2.ensures
 
 three : (c : tie.After-reaches3 invariant-loop decreases-loop) → c.reaches3.result ≤ 1
-three c = holds-small _ c.reaches3.ensures
+three c = holds_small _ c.reaches3.ensures
 
 add_low : tie.Need-overflow-add-low invariant-loop decreases-loop
 add_low c = record { fits = omega (arith, one c, two c) }
@@ -94,7 +94,7 @@ add-low-2 c = record { fits = omega (arith, one c, two c, three c) }
 mul_low : tie.Need-overflow-mul-low invariant-loop decreases-loop
 mul_low c =
     let here = turn c in
-    record { fits = omega (arith, between-fits here.before.loop.inv here.loop-test.taken refl c.before.before.before.before.reaches.ensures c.before.before.reaches2.ensures c.reaches3.ensures) }
+    record { fits = omega (arith, between_fits here.before.loop.inv here.loop-test.taken refl c.before.before.before.before.reaches.ensures c.before.before.reaches2.ensures c.reaches3.ensures) }
 
 add-low-3 : tie.Need-overflow-add-low-3 invariant-loop decreases-loop
 add-low-3 c =

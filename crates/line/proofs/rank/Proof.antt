@@ -1,8 +1,8 @@
 -- `rank` meets its contract: the entries that are left say the rest.
 use mathlib.Core.Path.{◌≡◌}
 use native.Mathlib.Omega.{arith}
-use Rattle.hypervolume.proofs.Tests.{holds-small}
-use Rattle.line.proofs.RankLaws.{between-one, between-two, between_none}
+use Rattle.hypervolume.proofs.Tests.{holds_small}
+use Rattle.line.proofs.RankLaws.{between_one, between_two, between_none}
 use borrow.Author.Rules.{rules}
 use Rattle.line.proofs.rank.Statement.{statement}
 use Rattle.line.proofs.rank.Tie as tie
@@ -20,7 +20,7 @@ reaches-requires : tie.Need-reaches-requires
 reaches-requires c κs = search rules
 
 add-result : tie.Need-overflow-add-result
-add-result c = record { fits = omega (arith, holds-small _ c.reaches.ensures, c.before.before.before.before.narrow.ensures.0.within) }
+add-result c = record { fits = omega (arith, holds_small _ c.reaches.ensures, c.before.before.before.before.narrow.ensures.0.within) }
 
 add-reaches : tie.Need-overflow-add-reaches
 add-reaches c = search rules
@@ -35,10 +35,10 @@ reaches-requires-2 : tie.Need-reaches-requires-2
 reaches-requires-2 c κs = search rules
 
 add-result-2 : tie.Need-overflow-add-result-2
-add-result-2 c = record { fits = omega (arith, holds-small _ c.before.before.reaches.ensures, holds-small _ c.reaches2.ensures, c.before.before.before.before.before.before.narrow.ensures.0.within) }
+add-result-2 c = record { fits = omega (arith, holds_small _ c.before.before.reaches.ensures, holds_small _ c.reaches2.ensures, c.before.before.before.before.before.before.narrow.ensures.0.within) }
 
 returns : tie.Need-returns
-returns c = between_none (between-two c.before.before.before.before.before.before.narrow.ensures.0 c.before.before.before.before.if1.true c.before.before.reaches.ensures c.reaches2.ensures) (omega arith)
+returns c = between_none (between_two c.before.before.before.before.before.before.narrow.ensures.0 c.before.before.before.before.if1.true c.before.before.reaches.ensures c.reaches2.ensures) (omega arith)
 
 mul-reaches-3 : tie.Need-overflow-mul-reaches-3
 mul-reaches-3 c = search rules
@@ -50,10 +50,10 @@ reaches-requires-3 : tie.Need-reaches-requires-3
 reaches-requires-3 c κs = search rules
 
 add-result-3 : tie.Need-overflow-add-result-3
-add-result-3 c = record { fits = omega (arith, holds-small _ c.reaches3.ensures, c.before.before.before.before.before.before.narrow.ensures.0.within) }
+add-result-3 c = record { fits = omega (arith, holds_small _ c.reaches3.ensures, c.before.before.before.before.before.before.narrow.ensures.0.within) }
 
 returns-2 : tie.Need-returns-2
-returns-2 c = between_none (between-one c.before.before.before.before.before.before.narrow.ensures.0 c.before.before.if2.true c.reaches3.ensures) (omega arith)
+returns-2 c = between_none (between_one c.before.before.before.before.before.before.narrow.ensures.0 c.before.before.if2.true c.reaches3.ensures) (omega arith)
 
 returns-3 : tie.Need-returns-3
 returns-3 c =

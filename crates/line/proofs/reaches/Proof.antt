@@ -1,5 +1,5 @@
 -- `reaches` meets its contract.
-use Rattle.line.proofs.RankLaws.{reaches-bit}
+use Rattle.line.proofs.RankLaws.{reaches_bit}
 use borrow.Author.Rules.{rules}
 use Rattle.line.proofs.reaches.Statement.{statement}
 use Rattle.line.proofs.reaches.Tie as tie
@@ -11,7 +11,7 @@ sub-result : tie.Need-overflow-sub-result
 sub-result c = search rules
 
 returns : tie.Need-returns
-returns c = reaches-bit _ _ c.requires c.ranges.entry.fits
+returns c = reaches_bit _ _ c.requires c.ranges.entry.fits
 
 pub reaches-spec : {M : Type 1} → statement M
 reaches-spec = tie.close (tie.spec add-result sub-result returns)

@@ -1,6 +1,6 @@
 -- `thin` meets its contract. The invariant: the walk so far.
 use Prim.Native.Nat.{◌-◌}
-use Rattle.line.proofs.ThinLaws.{Walking, walking-none, walking-kept, walking-flagged, walking-less, walking-stop, walking-end}
+use Rattle.line.proofs.ThinLaws.{Walking, walking_none, walking_kept, walking_flagged, walking_less, walking_stop, walking_end}
 use borrow.Author.Rules.{rules}
 use Rattle.line.proofs.thin.Statement.{statement}
 use Rattle.line.proofs.thin.Tie as tie
@@ -15,7 +15,7 @@ y-of-requires : tie.Need-y-of-requires invariant-loop decreases-loop
 y-of-requires c κs = search rules
 
 loop-holds : tie.Need-loop-init invariant-loop decreases-loop
-loop-holds c = walking-none _ _ _ _ c.before.before.requires
+loop-holds c = walking_none _ _ _ _ c.before.before.requires
 
 mul-entry : tie.Need-overflow-mul-entry invariant-loop decreases-loop
 mul-entry c = search rules
@@ -37,7 +37,7 @@ returns c =
     let flag = c.before in
     let height = flag.before.before in
     let turn = height.before.before in
-    walking-stop turn.before.loop.invariant turn.loop-test.true turn.before.before.y_of.ensures height.y-of2.ensures flag.before.if1.true flag.flag-of.ensures c.if2.true
+    walking_stop turn.before.loop.invariant turn.loop-test.true turn.before.before.y_of.ensures height.y-of2.ensures flag.before.if1.true flag.flag_of.ensures c.if2.true
 
 mul-line : tie.Need-overflow-mul-line invariant-loop decreases-loop
 mul-line c = search rules
@@ -58,7 +58,7 @@ loop-again : tie.Need-loop-preserved invariant-loop decreases-loop
 loop-again c =
     let flag = c.before in
     let turn = flag.before.before.before.before in
-    walking-kept turn.before.loop.invariant turn.loop-test.true flag.flag-of.ensures c.if2.false
+    walking_kept turn.before.loop.invariant turn.loop-test.true flag.flag_of.ensures c.if2.false
 
 flag-of-requires-2 : tie.Need-flag-of-requires-2 invariant-loop decreases-loop
 flag-of-requires-2 c κs = search rules
@@ -86,7 +86,7 @@ loop-again-2 c =
     let flag = c.before.before in
     let height = flag.before.before in
     let turn = height.before.before in
-    walking-flagged turn.before.loop.invariant turn.loop-test.true turn.before.before.y_of.ensures height.y-of2.ensures flag.before.if1.false c.set-flag.ensures
+    walking_flagged turn.before.loop.invariant turn.loop-test.true turn.before.before.y_of.ensures height.y-of2.ensures flag.before.if1.false c.set-flag.ensures
 
 add-from-3 : tie.Need-overflow-add-from-3 invariant-loop decreases-loop
 add-from-3 c = search rules
@@ -99,13 +99,13 @@ loop-again-3 c =
     let flag = c.before in
     let height = flag.before.before in
     let turn = height.before.before in
-    walking-less turn.before.loop.invariant turn.loop-test.true turn.before.before.y_of.ensures height.y-of2.ensures flag.before.if1.false flag.flag-of2.ensures c.if3.false
+    walking_less turn.before.loop.invariant turn.loop-test.true turn.before.before.y_of.ensures height.y-of2.ensures flag.before.if1.false flag.flag-of2.ensures c.if3.false
 
 same-length-2 : tie.Need-same-length-2 invariant-loop decreases-loop
 same-length-2 c = search rules
 
 returns-2 : tie.Need-returns-2 invariant-loop decreases-loop
-returns-2 c = walking-end c.before.loop.invariant c.loop-test.false
+returns-2 c = walking_end c.before.loop.invariant c.loop-test.false
 
 pub thin-spec : {M : Type 1} → statement M
 thin-spec =

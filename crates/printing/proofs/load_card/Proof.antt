@@ -2,7 +2,7 @@
 use native.Mathlib.Omega.{arith}
 use lib.ListN.{length-take}
 use borrow.Author.Rules.{rules}
-use Rattle.printing.proofs.Printouts.{load-refused, load-accepted}
+use Rattle.printing.proofs.Printouts.{load_refused, load_accepted}
 use Rattle.printing.proofs.load_card.Statement.{statement}
 use Rattle.printing.proofs.load_card.Tie as tie
 
@@ -25,7 +25,7 @@ returns : tie.Need-returns
 returns c =
     let room = c.before.before.before.before.before.before.before.before.before.before.before.before.before.before.requires in
     let into = c.before.before.before.before.before.before.before.before.read-card.ensures in
-    load-refused room into c.before.before.before.before.if1.true c.before.before.put-refusal.ensures
+    load_refused room into c.before.before.before.before.if1.true c.before.before.put_refusal.ensures
 
 same-length-3 : tie.Need-same-length-3
 same-length-3 c = search rules
@@ -33,7 +33,7 @@ same-length-3 c = search rules
 returns-2 : tie.Need-returns-2
 returns-2 c =
     let room = c.before.before.before.before.before.before.before.before.before.before.requires in
-    load-accepted room c.before.before.before.before.read-card.ensures c.if1.false
+    load_accepted room c.before.before.before.before.read-card.ensures c.if1.false
 
 pub load-card-spec : {M : Type 1} → statement M
 load-card-spec =

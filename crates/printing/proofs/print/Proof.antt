@@ -1,6 +1,6 @@
 -- `printing::print` meets its contract: the line of a refusal, or the text, which is never refused here.
 use borrow.Author.Rules.{rules}
-use Rattle.printing.proofs.Printouts.{print-form}
+use Rattle.printing.proofs.Printouts.{print_form}
 use Rattle.printing.proofs.print.Statement.{statement}
 use Rattle.printing.proofs.print.Tie as tie
 
@@ -32,7 +32,7 @@ returns-2 : tie.Need-returns-2
 returns-2 c =
     let asked = c.before.before.before.before.before.before.before.before.before.before.before.before.before.before.before.requires in
     let loads = c.before.before.before.before.before.before.before.before.before.load-card.ensures in
-    print-form _ _ asked.1 loads c.before.before.before.before.before.if1.false c.before.before.write-text.ensures
+    print_form _ _ asked.1 loads c.before.before.before.before.before.if1.false c.before.before.write-text.ensures
 
 pub print-spec : {M : Type 1} → statement M
 print-spec =

@@ -1,7 +1,7 @@
 -- `printing::put_line` meets its contract, column by column.
 use native.Mathlib.Omega.{arith}
 use lib.ListN.{length-set}
-use Rattle.printing.proofs.Texts.{put-line}
+use Rattle.printing.proofs.Texts.{put_line}
 use borrow.Author.Rules.{rules}
 use Rattle.printing.proofs.put_line.Statement.{statement}
 use Rattle.printing.proofs.put_line.Tie as tie
@@ -66,7 +66,7 @@ same_length c = simp length-set (omega arith)
 returns : tie.Need-returns
 returns c =
     let s = c.before.before.before.before.before.before.before.before.before.before.before.before.before.before.before.before.before.before.before.before.before.before in
-    put-line s.args.wide s.args.out.now s.args.at _ s.requires.1 (omega arith) c.before.before.before.before.before.before.before.before.before.before.before.before.before.before.before.before.before.before.put-number.ensures c.before.before.before.before.before.before.before.before.before.before.before.before.before.before.put-number2.ensures c.before.before.before.before.before.before.before.before.before.before.put-number3.ensures c.before.before.before.before.before.before.put-number4.ensures c.before.before.put_last.ensures
+    put_line s.args.wide s.args.out.now s.args.at _ s.requires.1 (omega arith) c.before.before.before.before.before.before.before.before.before.before.before.before.before.before.before.before.before.before.put-number.ensures c.before.before.before.before.before.before.before.before.before.before.before.before.before.before.put-number2.ensures c.before.before.before.before.before.before.before.before.before.before.put-number3.ensures c.before.before.before.before.before.before.put-number4.ensures c.before.before.put_last.ensures
 
 pub put-line-spec : {M : Type 1} → statement M
 put-line-spec =

@@ -2,7 +2,7 @@
 use native.Mathlib.Omega.{arith}
 use lib.ListN.{length-set}
 use borrow.Author.Rules.{rules}
-use Rattle.printing.proofs.Printouts.{put-refusal}
+use Rattle.printing.proofs.Printouts.{put_refusal}
 use Rattle.printing.proofs.put_refusal.Statement.{statement}
 use Rattle.printing.proofs.put_refusal.Tie as tie
 
@@ -19,7 +19,7 @@ same_length : tie.Need-same-length
 same_length c = simp length-set (omega arith)
 
 returns : tie.Need-returns
-returns c = put-refusal c.before.before.before.before.before.before.before.before.before.args.out.now _ _ c.before.before.before.before.before.before.before.before.before.requires (omega arith) c.before.before.before.before.before.before.put-number.ensures c.before.before.put-number2.ensures
+returns c = put_refusal c.before.before.before.before.before.before.before.before.before.args.out.now _ _ c.before.before.before.before.before.before.before.before.before.requires (omega arith) c.before.before.before.before.before.before.put-number.ensures c.before.before.put-number2.ensures
 
 pub put-refusal-spec : {M : Type 1} → statement M
 put-refusal-spec =

@@ -1,14 +1,14 @@
 -- `printing::write_text` meets its contract: rows 1 to 3, row 16, or the text.
 use mathlib.Core.Path.{◌≡◌, sym, ◌∙◌}
 use native.Mathlib.Omega.{arith}
-use Rattle.words.specs.Format.{archive-rows}
+use Rattle.words.specs.Format.{archive_rows}
 use Rattle.calls.proofs.Known.{known}
-use Rattle.printing.proofs.Texts.{told-row, told-short, bytes-few, told_text}
+use Rattle.printing.proofs.Texts.{told_row, told_short, bytes_few, told_text}
 use borrow.Author.Rules.{rules}
 use Rattle.printing.proofs.write_text.Statement.{statement}
 use Rattle.printing.proofs.write_text.Tie as tie
 
-passing : (c : tie.Else1) → archive-rows c.before.before.before.before.args.w.now 0 ≡ 0
+passing : (c : tie.Else1) → archive_rows c.before.before.before.before.args.w.now 0 ≡ 0
 passing c = sym c.before.refusal.ensures ∙ c.if1.false
 
 refusal-requires : tie.Need-refusal-requires
@@ -19,7 +19,7 @@ refused-requires c κs = search rules
 
 returns : tie.Need-returns
 returns c =
-    let told = told-row _ _ _ _ c.before.before.refusal.ensures c.before.if1.true in
+    let told = told_row _ _ _ _ c.before.before.refusal.ensures c.before.if1.true in
     (c.refused.ensures ∙ told.0, told.1)
 
 add-bytes : tie.Need-overflow-add-bytes
@@ -32,14 +32,14 @@ add-bytes-2 : tie.Need-overflow-add-bytes-2
 add-bytes-2 c = omega (arith, known _ (passing c.before))
 
 mul-bytes : tie.Need-overflow-mul-bytes
-mul-bytes c = omega (arith, bytes-few _ _ _ c.before.before.before.before.before.requires (passing c.before))
+mul-bytes c = omega (arith, bytes_few _ _ _ c.before.before.before.before.before.requires (passing c.before))
 
 refused-requires-2 : tie.Need-refused-requires-2
 refused-requires-2 c κs = search rules
 
 returns-2 : tie.Need-returns-2
 returns-2 c =
-    let told = told-short _ _ _ _ (passing c.before.before.before) c.before.if2.true in
+    let told = told_short _ _ _ _ (passing c.before.before.before) c.before.if2.true in
     (c.refused2.ensures ∙ told.0, told.1)
 
 mul-t14 : tie.Need-overflow-mul-t14
@@ -69,7 +69,7 @@ same_length c = search rules
 returns-3 : tie.Need-returns-3
 returns-3 c =
     let told =
-    told_text _ _ _ _ _ c.before.before.before.before.before.before.before.before.before.before.before.before.before.before.before.before.before.before.requires (passing c.before.before.before.before.before.before.before.before.before.before.before.before.before.before) c.before.before.before.before.before.before.before.before.before.before.before.before.if2.false c.before.before.before.before.before.before.before.before.before.before.reference-of.ensures c.before.before.before.before.before.before.before.put-line.ensures
+    told_text _ _ _ _ _ c.before.before.before.before.before.before.before.before.before.before.before.before.before.before.before.before.before.before.requires (passing c.before.before.before.before.before.before.before.before.before.before.before.before.before.before) c.before.before.before.before.before.before.before.before.before.before.before.before.if2.false c.before.before.before.before.before.before.before.before.before.before.reference_of.ensures c.before.before.before.before.before.before.before.put_line.ensures
     c.before.before.before.put-records.ensures in
     (c.done.ensures ∙ told.0, told.1)
 

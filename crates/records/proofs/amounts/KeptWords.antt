@@ -8,15 +8,15 @@ use lib.ListN.{length, take, drop, set, get_or, length-drop, length-set}
 use lib.Seq.{set-append_left, length-take-le}
 use borrow.Author.Tests.{le-ltb}
 use Rattle.slices.specs.Put.{put}
-use Rattle.slices.specs.Amounts.{moved, Each, Placed, amounts-at}
-use Rattle.slices.proofs.Put.{put-inside, put_same}
-use Rattle.slices.proofs.PlacedLoops.{Judging, judging-none, Placing, placing-none, placing-here, placing-more, placing-end}
+use Rattle.slices.specs.Amounts.{moved, Each, Placed, amounts_at}
+use Rattle.slices.proofs.Put.{put_inside, put_same}
+use Rattle.slices.proofs.PlacedLoops.{Judging, judging_none, Placing, placing_none, placing_here, placing_more, placing_end}
 use Rattle.words.specs.Archive.{Row}
-use Rattle.words.specs.Layout.{record-words, records, read-rows}
-use Rattle.words.proofs.Reading.{length-records, length-read-rows, records-read}
-use Rattle.records.specs.Columns.{field_of, column, leave-out, place-but, rekept}
-use Rattle.records.proofs.Columns.{length-column, column-at, length-rekept}
-use Rattle.records.proofs.LeaveOut.{length-leave-out, leave-at, place-but-below}
+use Rattle.words.specs.Layout.{record_words, records, read_rows}
+use Rattle.words.proofs.Reading.{length_records, length_read_rows, records_read}
+use Rattle.records.specs.Columns.{field_of, column, leave_out, place_but, rekept}
+use Rattle.records.proofs.Columns.{length_column, column_at, length_rekept}
+use Rattle.records.proofs.LeaveOut.{length_leave_out, leave_at, place_but_below}
 use Rattle.records.proofs.RowAt.{blank}
 
 -- A word set in a part.
@@ -42,7 +42,7 @@ five-on p = omega arith
 -- Records with these contributions: the fifth word of the record at place p is the p-th of them.
 kept_at : (rows : List Row) (vs : List ℕ) (p : ℕ) → length vs ≡ length rows → p < length rows
     → get_or (records (rekept rows vs)) (4 + 5 * p) 0 ≡ get_or vs p 0
-unfolding records record-words rekept
+unfolding records record_words rekept
 kept_at [] vs p e l = absurd (let no' : ⊥ = omega arith in no')
 kept_at (r ∷ rows) [] p e l = absurd (let no' : ⊥ = omega arith in no')
 kept_at (r ∷ rows) (v ∷ vs) zero e l = refl
@@ -51,7 +51,7 @@ kept_at (r ∷ rows) (v ∷ vs) (suc p) e l =
 
 kept_set : (rows : List Row) (vs : List ℕ) (p v : ℕ) → length vs ≡ length rows → p < length rows
     → set (records (rekept rows vs)) (4 + 5 * p) v ≡ records (rekept rows (set vs p v))
-unfolding records record-words rekept
+unfolding records record_words rekept
 kept_set [] vs p v e l = absurd (let no' : ⊥ = omega arith in no')
 kept_set (r ∷ rows) [] p v e l = absurd (let no' : ⊥ = omega arith in no')
 kept_set (r ∷ rows) (u ∷ vs) zero v e l = refl
@@ -62,7 +62,7 @@ kept_set (r ∷ rows) (u ∷ vs) (suc p) v e l =
 
 -- Their own contributions change nothing.
 pub rekept-own : (rows : List Row) → rekept rows (column 4 rows) ≡ rows
-unfolding rekept column field_of record-words
+unfolding rekept column field_of record_words
 rekept-own [] = refl
 rekept-own (r ∷ rows) = ap (λ l. r ∷ l) (rekept-own rows)
 
@@ -71,30 +71,30 @@ pub record Kept (old : List ℕ) (n : ℕ) (values now : List ℕ) : Type 0 wher
   pub room : 8 + 5 * n ≤ length old
   pub many : length values ≡ n
   pub long : length now ≡ length old
-  pub is : now ≡ put old 8 (records (rekept (read-rows n (drop 8 old)) values))
+  pub is : now ≡ put old 8 (records (rekept (read_rows n (drop 8 old)) values))
 
-pub kept-none : (old : List ℕ) (n : ℕ) → 8 + 5 * n ≤ length old → Kept old n (column 4 (read-rows n (drop 8 old))) old
+pub kept-none : (old : List ℕ) (n : ℕ) → 8 + 5 * n ≤ length old → Kept old n (column 4 (read_rows n (drop 8 old))) old
 kept-none old n room =
     let left : length (drop 8 old) ≡ length old - 8 = length-drop 8 old in
     record {
       room = room;
-      many = length-column 4 (read-rows n (drop 8 old)) ∙ length-read-rows n (drop 8 old);
+      many = length_column 4 (read_rows n (drop 8 old)) ∙ length_read_rows n (drop 8 old);
       long = refl;
       is =
           sym
-          (ap (λ rows. put old 8 (records rows)) (rekept-own (read-rows n (drop 8 old)))
-          ∙ ap (put old 8) (records-read n (drop 8 old) (omega arith))
+          (ap (λ rows. put old 8 (records rows)) (rekept-own (read_rows n (drop 8 old)))
+          ∙ ap (put old 8) (records_read n (drop 8 old) (omega arith))
           ∙ put_same old 8 (5 * n) room);
     }
 
 module _ {old : List ℕ} {n : ℕ} {values now : List ℕ} (h : Kept old n values now) where
-  rows_long : length (read-rows n (drop 8 old)) ≡ n
-  rows_long = length-read-rows n (drop 8 old)
+  rows_long : length (read_rows n (drop 8 old)) ≡ n
+  rows_long = length_read_rows n (drop 8 old)
 
-  words_long : length (records (rekept (read-rows n (drop 8 old)) values)) ≡ 5 * n
+  words_long : length (records (rekept (read_rows n (drop 8 old)) values)) ≡ 5 * n
   words_long =
-      length-records (rekept (read-rows n (drop 8 old)) values)
-      ∙ ap (λ k. 5 * k) (length-rekept (read-rows n (drop 8 old)) values ∙ rows_long)
+      length_records (rekept (read_rows n (drop 8 old)) values)
+      ∙ ap (λ k. 5 * k) (length_rekept (read_rows n (drop 8 old)) values ∙ rows_long)
 
   -- the word of the record at place p is inside
   pub kept-inside : (p : ℕ) → p < n → 12 + 5 * p < length now
@@ -106,16 +106,16 @@ module _ {old : List ℕ} {n : ℕ} {values now : List ℕ} (h : Kept old n valu
   pub kept_word : (p : ℕ) → p < n → get_or now (12 + 5 * p) 0 ≡ get_or values p 0
   kept_word p l =
       let room : 8 + 5 * n ≤ length old = h.room in
-      let new : List ℕ = records (rekept (read-rows n (drop 8 old)) values) in
+      let new : List ℕ = records (rekept (read_rows n (drop 8 old)) values) in
       let place : 12 + 5 * p ≡ 8 + (4 + 5 * p) = omega arith in
       ap₂ (λ m i. get_or m i 0) h.is place
-      ∙ put-inside old 8 new (omega (arith, words_long)) (4 + 5 * p) (omega (arith, words_long))
-      ∙ kept_at (read-rows n (drop 8 old)) values p (h.many ∙ sym rows_long) (omega (arith, rows_long))
+      ∙ put_inside old 8 new (omega (arith, words_long)) (4 + 5 * p) (omega (arith, words_long))
+      ∙ kept_at (read_rows n (drop 8 old)) values p (h.many ∙ sym rows_long) (omega (arith, rows_long))
 
   pub kept-write : (p v : ℕ) → p < n → Kept old n (set values p v) (set now (12 + 5 * p) v)
   kept-write p v l =
       let room : 8 + 5 * n ≤ length old = h.room in
-      let new : List ℕ = records (rekept (read-rows n (drop 8 old)) values) in
+      let new : List ℕ = records (rekept (read_rows n (drop 8 old)) values) in
       let place : 12 + 5 * p ≡ 8 + (4 + 5 * p) = omega arith in
       record {
         room = room;
@@ -124,66 +124,66 @@ module _ {old : List ℕ} {n : ℕ} {values now : List ℕ} (h : Kept old n valu
         is =
             ap₂ (λ m i. set m i v) h.is place
             ∙ set-put old 8 new (4 + 5 * p) v (omega (arith, words_long)) (omega (arith, words_long))
-            ∙ ap (put old 8) (kept_set (read-rows n (drop 8 old)) values p v (h.many ∙ sym rows_long) (omega (arith, rows_long)));
+            ∙ ap (put old 8) (kept_set (read_rows n (drop 8 old)) values p v (h.many ∙ sym rows_long) (omega (arith, rows_long)));
       }
 
 -- The word of the record at place p, among all records and among those but one.
 pub contribution-at : (w : List ℕ) (n p : ℕ) → 8 + 5 * n ≤ length w → p < n
-    → get_or w (12 + 5 * p) 0 ≡ get_or (column 4 (read-rows n (drop 8 w))) p 0
+    → get_or w (12 + 5 * p) 0 ≡ get_or (column 4 (read_rows n (drop 8 w))) p 0
 contribution-at w n p room l = kept_word (kept-none w n room) p l
 
-module _ (w : List ℕ) (n k p at : ℕ) (room : 8 + 5 * n ≤ length w) (inside : k < n) (l : p < n - 1) (e : at ≡ place-but k p) where
+module _ (w : List ℕ) (n k p at : ℕ) (room : 8 + 5 * n ≤ length w) (inside : k < n) (l : p < n - 1) (e : at ≡ place_but k p) where
   below : at < n
-  below = let b : place-but k p < n = place-but-below k p n l in omega arith
+  below = let b : place_but k p < n = place_but_below k p n l in omega arith
 
   pub word-but-inside : 12 + 5 * at < length w
   word-but-inside = omega (arith, below)
 
-  pub contribution-but : get_or w (12 + 5 * at) 0 ≡ get_or (column 4 (leave-out k (read-rows n (drop 8 w)))) p 0
+  pub contribution-but : get_or w (12 + 5 * at) 0 ≡ get_or (column 4 (leave_out k (read_rows n (drop 8 w)))) p 0
   contribution-but =
-      let rows : List Row = read-rows n (drop 8 w) in
-      let size : length (read-rows n (drop 8 w)) ≡ n = length-read-rows n (drop 8 w) in
-      let left : suc (length (leave-out k (read-rows n (drop 8 w)))) ≡ length (read-rows n (drop 8 w)) = length-leave-out k (read-rows n (drop 8 w)) (omega arith) in
+      let rows : List Row = read_rows n (drop 8 w) in
+      let size : length (read_rows n (drop 8 w)) ≡ n = length_read_rows n (drop 8 w) in
+      let left : suc (length (leave_out k (read_rows n (drop 8 w)))) ≡ length (read_rows n (drop 8 w)) = length_leave_out k (read_rows n (drop 8 w)) (omega arith) in
       contribution-at w n at room below
-      ∙ column-at 4 rows at blank (omega (arith, below))
+      ∙ column_at 4 rows at blank (omega (arith, below))
       ∙ ap (λ i. field_of 4 (get_or rows i blank)) e
-      ∙ ap (field_of 4) (sym (leave-at rows k p blank))
-      ∙ sym (column-at 4 (leave-out k rows) p blank (omega arith))
+      ∙ ap (field_of 4) (sym (leave_at rows k p blank))
+      ∙ sym (column_at 4 (leave_out k rows) p blank (omega arith))
 
 -- No contribution is below 0, nor above the limit without its count.
 pub none_below : (w : List ℕ) (n : ℕ) {places counts : List ℕ} → 8 + 5 * n ≤ length w → Placed n places counts
-    → Judging (λ v m. ltb v m) (column 4 (read-rows n (drop 8 w))) n places counts 0
+    → Judging (λ v m. ltb v m) (column 4 (read_rows n (drop 8 w))) n places counts 0
 none_below w n room h =
-    judging-none (kept-none w n room).many h (λ i. le-ltb (get_or (column 4 (read-rows n (drop 8 w))) i 0) 0 zero-le)
+    judging_none (kept-none w n room).many h (λ i. le-ltb (get_or (column 4 (read_rows n (drop 8 w))) i 0) 0 zero-le)
 
-pub none_above : (w : List ℕ) (n k limit : ℕ) {places counts : List ℕ} → k < n → Placed (n - 1) places counts → Each (column 4 (leave-out k (read-rows n (drop 8 w)))) limit
-    → Judging (λ v m. ltb limit (v + m)) (column 4 (leave-out k (read-rows n (drop 8 w)))) (n - 1) places counts 0
+pub none_above : (w : List ℕ) (n k limit : ℕ) {places counts : List ℕ} → k < n → Placed (n - 1) places counts → Each (column 4 (leave_out k (read_rows n (drop 8 w)))) limit
+    → Judging (λ v m. ltb limit (v + m)) (column 4 (leave_out k (read_rows n (drop 8 w)))) (n - 1) places counts 0
 none_above w n k limit inside h low =
-    let size : length (read-rows n (drop 8 w)) ≡ n = length-read-rows n (drop 8 w) in
-    let left : suc (length (leave-out k (read-rows n (drop 8 w)))) ≡ length (read-rows n (drop 8 w)) = length-leave-out k (read-rows n (drop 8 w)) (omega arith) in
-    let many : length (column 4 (leave-out k (read-rows n (drop 8 w)))) ≡ length (leave-out k (read-rows n (drop 8 w))) = length-column 4 (leave-out k (read-rows n (drop 8 w))) in
-    judging-none (let m : length (column 4 (leave-out k (read-rows n (drop 8 w)))) ≡ n - 1 = omega arith in m) h
-    (λ i. le-ltb limit (get_or (column 4 (leave-out k (read-rows n (drop 8 w)))) i 0 + 0) (omega (arith, low i)))
+    let size : length (read_rows n (drop 8 w)) ≡ n = length_read_rows n (drop 8 w) in
+    let left : suc (length (leave_out k (read_rows n (drop 8 w)))) ≡ length (read_rows n (drop 8 w)) = length_leave_out k (read_rows n (drop 8 w)) (omega arith) in
+    let many : length (column 4 (leave_out k (read_rows n (drop 8 w)))) ≡ length (leave_out k (read_rows n (drop 8 w))) = length_column 4 (leave_out k (read_rows n (drop 8 w))) in
+    judging_none (let m : length (column 4 (leave_out k (read_rows n (drop 8 w)))) ≡ n - 1 = omega arith in m) h
+    (λ i. le-ltb limit (get_or (column 4 (leave_out k (read_rows n (drop 8 w)))) i 0 + 0) (omega (arith, low i)))
 
 -- The contributions at the first k places are moved in the words.
 pub record Storing (op : ℕ → ℕ → ℕ) (old : List ℕ) (n : ℕ) (places counts : List ℕ) (k : ℕ) (now : List ℕ) : Type 0 where
   pub values : List ℕ
-  pub placing : Placing op (column 4 (read-rows n (drop 8 old))) n places counts k values
+  pub placing : Placing op (column 4 (read_rows n (drop 8 old))) n places counts k values
   pub kept : Kept old n values now
 
 pub storing-none : {op : ℕ → ℕ → ℕ} {old : List ℕ} {n : ℕ} {places counts : List ℕ} → 8 + 5 * n ≤ length old → Placed n places counts
     → ((v : ℕ) → op v 0 ≡ v) → Storing op old n places counts 0 old
 storing-none {op} {old} {n} room h still =
     let kept = kept-none old n room in
-    record { values = column 4 (read-rows n (drop 8 old)); placing = placing-none kept.many h still; kept = kept }
+    record { values = column 4 (read_rows n (drop 8 old)); placing = placing_none kept.many h still; kept = kept }
 
 module _ {op : ℕ → ℕ → ℕ} {old : List ℕ} {n : ℕ} {places counts : List ℕ} {k : ℕ} {now : List ℕ} (h : Storing op old n places counts k now) where
   -- the word whose turn it is: inside, and as it was
   pub storing-inside : k < length places → 12 + 5 * get_or places k 0 < length now
   storing-inside l = kept-inside h.kept (get_or places k 0) (h.placing.placed.inside k l)
 
-  pub storing-here : k < length places → get_or now (12 + 5 * get_or places k 0) 0 ≡ get_or (column 4 (read-rows n (drop 8 old))) (get_or places k 0) 0
-  storing-here l = kept_word h.kept (get_or places k 0) (h.placing.placed.inside k l) ∙ placing-here h.placing l
+  pub storing-here : k < length places → get_or now (12 + 5 * get_or places k 0) 0 ≡ get_or (column 4 (read_rows n (drop 8 old))) (get_or places k 0) 0
+  storing-here l = kept_word h.kept (get_or places k 0) (h.placing.placed.inside k l) ∙ placing_here h.placing l
 
   pub storing-more : k < length places
       → Storing op old n places counts (k + 1) (set now (12 + 5 * get_or places k 0) (op (get_or now (12 + 5 * get_or places k 0) 0) (get_or counts k 0)))
@@ -191,9 +191,9 @@ module _ {op : ℕ → ℕ → ℕ} {old : List ℕ} {n : ℕ} {places counts : 
       let inside = h.placing.placed.inside k l in
       record {
         values = set h.values (get_or places k 0) (op (get_or now (12 + 5 * get_or places k 0) 0) (get_or counts k 0));
-        placing = placing-more h.placing (get_or now (12 + 5 * get_or places k 0) 0) (kept_word h.kept (get_or places k 0) inside) l;
+        placing = placing_more h.placing (get_or now (12 + 5 * get_or places k 0) 0) (kept_word h.kept (get_or places k 0) inside) l;
         kept = kept-write h.kept (get_or places k 0) (op (get_or now (12 + 5 * get_or places k 0) 0) (get_or counts k 0)) inside;
       }
 
-  pub storing-end : length places ≤ k → now ≡ put old 8 (records (rekept (read-rows n (drop 8 old)) (moved op (column 4 (read-rows n (drop 8 old))) (amounts-at n places counts))))
-  storing-end l = h.kept.is ∙ ap (λ vs. put old 8 (records (rekept (read-rows n (drop 8 old)) vs))) (placing-end h.placing l)
+  pub storing-end : length places ≤ k → now ≡ put old 8 (records (rekept (read_rows n (drop 8 old)) (moved op (column 4 (read_rows n (drop 8 old))) (amounts_at n places counts))))
+  storing-end l = h.kept.is ∙ ap (λ vs. put old 8 (records (rekept (read_rows n (drop 8 old)) vs))) (placing_end h.placing l)

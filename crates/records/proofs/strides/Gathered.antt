@@ -7,9 +7,9 @@ use native.Mathlib.Omega.{arith}
 use lib.ListN.{length, drop, set, get_or}
 use lib.Seq.{get_or-drop}
 use Rattle.slices.specs.Put.{put}
-use Rattle.slices.proofs.Loops.{Written, written_none, written-more, written-end}
+use Rattle.slices.proofs.Loops.{Written, written_none, written_more, written_end}
 use Rattle.records.specs.Columns.{fifths}
-use Rattle.records.proofs.Columns.{length-fifths}
+use Rattle.records.proofs.Columns.{length_fifths}
 
 fifths-at : (n : ℕ) (w : List ℕ) (i : ℕ) → i < n → get_or w (5 * i) 0 ≡ get_or (fifths n w) i 0
 unfolding fifths
@@ -28,7 +28,7 @@ pub record Gathered (w : List ℕ) (first n : ℕ) (old now : List ℕ) (i : ℕ
 
 module _ (w : List ℕ) (first n : ℕ) where
   many : length (fifths n (drop first w)) ≡ n
-  many = length-fifths n (drop first w)
+  many = length_fifths n (drop first w)
 
   pub gathered_none : (old : List ℕ) → n ≤ length old → Gathered w first n old old 0
   gathered_none old room =
@@ -43,8 +43,8 @@ module _ {w : List ℕ} {first n : ℕ} {old now : List ℕ} {i : ℕ} (h : Gath
   pub gathered-more : i < n → Gathered w first n old (set now i (get_or w (first + 5 * i) 0)) (i + 1)
   gathered-more l =
       let done : Written old 0 (fifths n (drop first w)) (i + 1) (set now i (get_or w (first + 5 * i) 0)) =
-      rw (zero-add i) at (written-more h.done _ (omega (arith, many w first n)) (sym (get_or-drop first w (5 * i) 0) ∙ fifths-at n (drop first w) i l)) in
+      rw (zero-add i) at (written_more h.done _ (omega (arith, many w first n)) (sym (get_or-drop first w (5 * i) 0) ∙ fifths-at n (drop first w) i l)) in
       record { part = omega arith; room = h.room; long = done.long; done = done }
 
   pub gathered-end : n ≤ i → now ≡ put old 0 (fifths n (drop first w))
-  gathered-end l = written-end h.done (omega (arith, many w first n))
+  gathered-end l = written_end h.done (omega (arith, many w first n))

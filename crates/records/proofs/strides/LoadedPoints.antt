@@ -7,17 +7,17 @@ use native.Mathlib.Omega.{arith}
 use lib.ListN.{length, take, drop, set, get_or, length-drop, length-set, drop_of_length-le}
 use lib.Seq.{paste, paste-zero, paste-suc, take-paste, take_all, get_or-take, get_or-drop, length-take-le}
 use Rattle.words.specs.Archive.{Row, point, trials, points}
-use Rattle.words.specs.Layout.{word, read-rows}
-use Rattle.words.specs.Format.{archive-rows}
-use Rattle.words.specs.Places.{as-record, row_at, rows_before}
+use Rattle.words.specs.Layout.{word, read_rows}
+use Rattle.words.specs.Format.{archive_rows}
+use Rattle.words.specs.Places.{as_record, row_at, rows_before}
 use Rattle.words.specs.declared.rows.Record.{Record}
-use Rattle.words.proofs.Reading.{length-read-rows}
-use Rattle.words.proofs.Places.{rows-before-at, point-of-record}
+use Rattle.words.proofs.Reading.{length_read_rows}
+use Rattle.words.proofs.Places.{rows_before_at, point_of_record}
 use Rattle.calls.proofs.Known.{known}
-use Rattle.records.specs.Columns.{leave-out}
+use Rattle.records.specs.Columns.{leave_out}
 use Rattle.records.specs.Loaded.{PointsGathered, PointsLoaded}
-use Rattle.records.proofs.HeldPoints.{points-append, length-points, points-at}
-use Rattle.records.proofs.LeaveOut.{leave_none, length-leave-out}
+use Rattle.records.proofs.HeldPoints.{points_append, length_points, points_at}
+use Rattle.records.proofs.LeaveOut.{leave_none, length_leave_out}
 use Rattle.records.proofs.RowAt.{blank}
 
 -- The points of n records from place `first` on.
@@ -28,22 +28,22 @@ module _ (w : List ℕ) (first n : ℕ) (inside : first + n ≤ word w 0) where
   rows-part : length (take n (drop first (rows_before w (word w 0)))) ≡ n
   rows-part =
       length-take-le n (drop first (rows_before w (word w 0)))
-      (let size : length (rows_before w (word w 0)) ≡ word w 0 = length-read-rows (word w 0) (drop 8 w) in
+      (let size : length (rows_before w (word w 0)) ≡ word w 0 = length_read_rows (word w 0) (drop 8 w) in
       let left : length (drop first (rows_before w (word w 0))) ≡ length (rows_before w (word w 0)) - first = length-drop first (rows_before w (word w 0)) in
       omega arith)
 
   length_part : length (part-points w first n) ≡ n
   unfolding part-points
-  length_part = length-points (take n (drop first (rows_before w (word w 0)))) ∙ rows-part
+  length_part = length_points (take n (drop first (rows_before w (word w 0)))) ∙ rows-part
 
   part_at : (i : ℕ) → i < n → get_or (part-points w first n) i [] ≡ point (row_at w (first + i)).trial
   unfolding part-points
   part_at i l =
-      points-at (take n (drop first (rows_before w (word w 0)))) i blank (omega (arith, rows-part))
+      points_at (take n (drop first (rows_before w (word w 0)))) i blank (omega (arith, rows-part))
       ∙ ap (λ r. point r.trial)
       (get_or-take n (drop first (rows_before w (word w 0))) i blank l
       ∙ get_or-drop first (rows_before w (word w 0)) i blank
-      ∙ rows-before-at w (word w 0) (first + i) blank (omega arith))
+      ∙ rows_before_at w (word w 0) (first + i) blank (omega arith))
 
 pub record Copied (w : List ℕ) (first n : ℕ) (old : List (List ℕ)) (at : ℕ) (now : List (List ℕ)) (i : ℕ) : Type 0 where
   pub part : i ≤ n
@@ -53,7 +53,7 @@ pub record Copied (w : List ℕ) (first n : ℕ) (old : List (List ℕ)) (at : �
   pub long : length now ≡ length old
   pub done : now ≡ paste old at (part-points w first n) i
 
-pub copied_none : (w : List ℕ) (first n : ℕ) (old : List (List ℕ)) (at : ℕ) → archive-rows w 0 ≡ 0 → first + n ≤ word w 0 → at + n ≤ length old → Copied w first n old at old 0
+pub copied_none : (w : List ℕ) (first n : ℕ) (old : List (List ℕ)) (at : ℕ) → archive_rows w 0 ≡ 0 → first + n ≤ word w 0 → at + n ≤ length old → Copied w first n old at old 0
 copied_none w first n old at p inside room =
     record {
       part = omega arith;
@@ -66,13 +66,13 @@ copied_none w first n old at p inside room =
 
 module _ {w : List ℕ} {first n : ℕ} {old : List (List ℕ)} {at : ℕ} {now : List (List ℕ)} {i : ℕ} (h : Copied w first n old at now i) where
   -- one record more, and its point written
-  pub copied_more : (r : Record) (next : List (List ℕ)) → as-record r ≡ row_at w (first + i) → length r.point.at ≡ 3 → i < n → next ≡ set now (at + i) r.point.at
+  pub copied_more : (r : Record) (next : List (List ℕ)) → as_record r ≡ row_at w (first + i) → length r.point.at ≡ 3 → i < n → next ≡ set now (at + i) r.point.at
       → Copied w first n old at next (i + 1)
   copied_more r next e three l is =
       let room : at + n ≤ length old = h.room in
       let many : length (part-points w first n) ≡ n = length_part w first n h.inside in
       let this : r.point.at ≡ get_or (part-points w first n) i [] =
-      sym (point-of-record r three) ∙ ap (λ x. point x.trial) e ∙ sym (part_at w first n h.inside i l) in
+      sym (point_of_record r three) ∙ ap (λ x. point x.trial) e ∙ sym (part_at w first n h.inside i l) in
       record {
         part = omega arith;
         few = h.few;
@@ -103,20 +103,20 @@ module _ {w : List ℕ} {first n : ℕ} {old : List (List ℕ)} {at : ℕ} {now 
 
 -- The records before the one left out, then those behind it; or all.
 points-but : (w : List ℕ) (k n : ℕ) → n ≡ word w 0 → k < n
-    → points (trials (take k (drop 0 (rows_before w (word w 0))))) ++ points (trials (take (n - 1 - k) (drop (k + 1) (rows_before w (word w 0))))) ≡ points (trials (leave-out k (rows_before w (word w 0))))
-unfolding leave-out
+    → points (trials (take k (drop 0 (rows_before w (word w 0))))) ++ points (trials (take (n - 1 - k) (drop (k + 1) (rows_before w (word w 0))))) ≡ points (trials (leave_out k (rows_before w (word w 0))))
+unfolding leave_out
 points-but w k n e l =
     let rows : List Row = rows_before w (word w 0) in
-    let size : length (rows_before w (word w 0)) ≡ word w 0 = length-read-rows (word w 0) (drop 8 w) in
+    let size : length (rows_before w (word w 0)) ≡ word w 0 = length_read_rows (word w 0) (drop 8 w) in
     let left : length (drop (k + 1) (rows_before w (word w 0))) ≡ length (rows_before w (word w 0)) - (k + 1) = length-drop (k + 1) (rows_before w (word w 0)) in
     ap (λ x. points (trials (take k rows)) ++ points (trials x)) (take_all (n - 1 - k) (drop (k + 1) rows) (omega arith) ∙ ap (λ i. drop i rows) (add-one k))
-    ∙ sym (points-append (take k rows) (drop (suc k) rows))
+    ∙ sym (points_append (take k rows) (drop (suc k) rows))
 
-pub loaded-but : (w : List ℕ) (k n : ℕ) (to to₁ to₂ : List (List ℕ)) → archive-rows w 0 ≡ 0 → n ≡ word w 0 → k < n
+pub loaded-but : (w : List ℕ) (k n : ℕ) (to to₁ to₂ : List (List ℕ)) → archive_rows w 0 ≡ 0 → n ≡ word w 0 → k < n
     → PointsGathered w 0 k 0 to to₁ → PointsGathered w (k + 1) (n - 1 - k) k to₁ to₂ → PointsLoaded w k (n - 1) to to₂
 loaded-but w k n to to₁ to₂ p e l g₁ g₂ =
-    let size : length (rows_before w (word w 0)) ≡ word w 0 = length-read-rows (word w 0) (drop 8 w) in
-    let left : suc (length (leave-out k (rows_before w (word w 0)))) ≡ length (rows_before w (word w 0)) = length-leave-out k (rows_before w (word w 0)) (omega arith) in
+    let size : length (rows_before w (word w 0)) ≡ word w 0 = length_read_rows (word w 0) (drop 8 w) in
+    let left : suc (length (leave_out k (rows_before w (word w 0)))) ≡ length (rows_before w (word w 0)) = length_leave_out k (rows_before w (word w 0)) (omega arith) in
     let few : word w 0 ≤ 512 = (known w p).few in
     let first : take k to₁ ≡ points (trials (take k (drop 0 (rows_before w (word w 0))))) =
     ap (λ i. take i to₁) (let z : k ≡ 0 + k = omega arith in z) ∙ g₁.front in
@@ -131,12 +131,12 @@ loaded-but w k n to to₁ to₂ p e l g₁ g₂ =
       long = g₂.long ∙ g₁.long;
     }
 
-pub loaded-all : (w : List ℕ) (k n : ℕ) (to to₁ : List (List ℕ)) → archive-rows w 0 ≡ 0 → n ≡ word w 0 → n ≤ k → k ≤ word w 0
+pub loaded_all : (w : List ℕ) (k n : ℕ) (to to₁ : List (List ℕ)) → archive_rows w 0 ≡ 0 → n ≡ word w 0 → n ≤ k → k ≤ word w 0
     → PointsGathered w 0 k 0 to to₁ → PointsLoaded w k n to to₁
-loaded-all w k n to to₁ p e l m g =
+loaded_all w k n to to₁ p e l m g =
     let rows : List Row = rows_before w (word w 0) in
-    let size : length (rows_before w (word w 0)) ≡ word w 0 = length-read-rows (word w 0) (drop 8 w) in
-    let all : leave-out k rows ≡ rows = leave_none rows k (omega arith) in
+    let size : length (rows_before w (word w 0)) ≡ word w 0 = length_read_rows (word w 0) (drop 8 w) in
+    let all : leave_out k rows ≡ rows = leave_none rows k (omega arith) in
     let few : word w 0 ≤ 512 = (known w p).few in
     record {
       many = e ∙ sym (ap length all ∙ size);

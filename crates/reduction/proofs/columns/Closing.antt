@@ -6,7 +6,7 @@ use native.Mathlib.Omega.{arith}
 use lib.ListN.{length, take, drop, set, get_or, length-set, length-drop}
 use lib.Seq.{length-take-le, take-take, take-suc, take-append-le, drop-append-le, take-suc-set, get_or-set_other, drop-length}
 use Rattle.slices.specs.Put.{put}
-use Rattle.slices.proofs.Put.{take-put-all, drop-take}
+use Rattle.slices.proofs.Put.{take_put_all, drop_take}
 use Rattle.reduction.specs.Columns.{closed}
 
 pub closed-map : {A B : Type 0} (f : A → B) (k : ℕ) (l : List A) → map f (closed k l) ≡ closed k (map f l)
@@ -88,7 +88,7 @@ moved_down l after k n h room e =
     let size : length (take (n - 1 - k) (drop (k + 1) l)) ≡ n - 1 - k = length-take-le (n - 1 - k) (drop (k + 1) l) (omega (arith, length-drop (k + 1) l)) in
     ap (take (n - 1)) e
     ∙ ap (λ m. take m (put l k new)) (let e : n - 1 ≡ k + length (take (n - 1 - k) (drop (k + 1) l)) = omega arith in e)
-    ∙ take-put-all l k new (omega arith)
+    ∙ take_put_all l k new (omega arith)
     ∙ ap₂ ◌++◌ (sym (take-take k n l (omega arith)))
     (ap₂ (λ a b. take a (drop b l)) (let e : n - 1 - k ≡ n - suc k = omega arith in e) (let e : k + 1 ≡ suc k = omega arith in e)
-    ∙ sym (drop-take (suc k) n l))
+    ∙ sym (drop_take (suc k) n l))

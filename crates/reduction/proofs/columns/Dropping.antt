@@ -6,48 +6,48 @@ use mathlib.Core.List.{List, ◌∷◌, map, []}
 use lib.ListN.{length, get_or}
 use Rattle.hypervolume.specs.Counts.{gain, joints}
 use Rattle.words.specs.Archive.{Trial, Row, Archive, point, trials, points}
-use Rattle.words.specs.Layout.{record-words}
-use Rattle.words.specs.Format.{sound-rows, distinct}
+use Rattle.words.specs.Layout.{record_words}
+use Rattle.words.specs.Format.{sound_rows, distinct}
 use Rattle.words.proofs.Passed.{Sound}
 use Rattle.slices.specs.Amounts.{moved}
-use Rattle.slices.proofs.Choices.{both_true, both-intro}
-use Rattle.hypervolume.proofs.Counting.{total-le-box}
-use Rattle.calls.specs.Calls.{reference-of, held-points, row_of, others, without, removal-loss, insert-gain, raised, removed, least-row, dropped}
+use Rattle.slices.proofs.Choices.{both_true, both_intro}
+use Rattle.hypervolume.proofs.Counting.{total_le_box}
+use Rattle.calls.specs.Calls.{reference_of, held_points, row_of, others, without, removal_loss, insert_gain, raised, removed, least_row, dropped}
 use Rattle.calls.specs.Counted.{IsCounted}
 use Rattle.calls.proofs.Drops.{leaving, DropKeeps, drop_keeps}
-use Rattle.calls.proofs.Counted.{removed-trials}
-use Rattle.calls.proofs.Sound.{front-few}
-use Rattle.records.specs.Columns.{field_of, column, leave-out}
+use Rattle.calls.proofs.Counted.{removed_trials}
+use Rattle.calls.proofs.Sound.{front_few}
+use Rattle.records.specs.Columns.{field_of, column, leave_out}
 use Rattle.records.specs.Amounts.{shares}
-use Rattle.records.proofs.LeaveOut.{others-at, row-of-at}
-use Rattle.records.proofs.MovedAmounts.{joints-shares}
+use Rattle.records.proofs.LeaveOut.{others_at, row_of_at}
+use Rattle.records.proofs.MovedAmounts.{joints_shares}
 use Rattle.records.proofs.RowAt.{blank}
 use Rattle.reduction.specs.Columns.{closed, Droppable}
 use Rattle.reduction.proofs.columns.Closing.{closed-map}
 
 -- What a drop asks of the archive is that it is sound and counted.
 pub sound-archive : (a : Archive) → Droppable a → Sound a
-unfolding sound-rows
+unfolding sound_rows
 sound-archive a d =
     let rows = both_true _ _ d.sound in
     let order = both_true _ _ rows.1 in
     record {
       shaped = d.shaped;
-      within-box = rw d.counted.sum (total-le-box (reference-of a) (held-points a));
-      front-within = rw d.counted.front (front-few a.rows);
-      held-within = d.held-within;
+      within_box = rw d.counted.sum (total_le_box (reference_of a) (held_points a));
+      front_within = rw d.counted.front (front_few a.rows);
+      held_within = d.held_within;
       rows_fit = rows.0;
       in_order = order.0;
       apart = order.1;
     }
 
 pub droppable-archive : (a : Archive) → Sound a → IsCounted a → Droppable a
-unfolding sound-rows
+unfolding sound_rows
 droppable-archive a s c =
     record {
       shaped = s.shaped;
-      held-within = s.held-within;
-      sound = both-intro _ _ s.rows_fit (both-intro _ _ s.in_order s.apart);
+      held_within = s.held_within;
+      sound = both_intro _ _ s.rows_fit (both_intro _ _ s.in_order s.apart);
       counted = c;
     }
 
@@ -58,69 +58,69 @@ droppable-after rule a d l =
 
 -- Records that are raised keep their trials.
 raised-numbers : (a : Archive) (t : Trial) (rows : List Row) → column 0 (map (raised a t) rows) ≡ column 0 rows
-unfolding column field_of record-words raised
+unfolding column field_of record_words raised
 raised-numbers a t [] = refl
 raised-numbers a t (r ∷ rows) = ap (λ l. r.trial.number ∷ l) (raised-numbers a t rows)
 
 raised-kept : (a : Archive) (t : Trial) (rows : List Row) → column 4 (map (raised a t) rows) ≡ moved (λ v m. v + m) (column 4 rows) (shares a t rows)
-unfolding column field_of record-words raised moved shares
+unfolding column field_of record_words raised moved shares
 raised-kept a t [] = refl
 raised-kept a t (r ∷ rows) = ap (λ l. (raised a t r).kept ∷ l) (raised-kept a t rows)
 
-column-closed : (f k : ℕ) (rows : List Row) → column f (leave-out k rows) ≡ closed k (column f rows)
-unfolding column leave-out closed
+column-closed : (f k : ℕ) (rows : List Row) → column f (leave_out k rows) ≡ closed k (column f rows)
+unfolding column leave_out closed
 column-closed f k rows = closed-map (field_of f) k rows
 
-points-closed : (k : ℕ) (rows : List Row) → points (trials (leave-out k rows)) ≡ closed k (points (trials rows))
-unfolding points trials leave-out closed
+points-closed : (k : ℕ) (rows : List Row) → points (trials (leave_out k rows)) ≡ closed k (points (trials rows))
+unfolding points trials leave_out closed
 points-closed k rows = ap (map point) (closed-map (λ r. r.trial) k rows) ∙ closed-map point k (trials rows)
 
 -- The drop of the record at place k, which is the least contributor.
-module _ (rule : ℕ) (a : Archive) (k : ℕ) (d : Droppable a) (l : k < length a.rows) (least : get_or a.rows k blank ≡ least-row rule a.rows) where
+module _ (rule : ℕ) (a : Archive) (k : ℕ) (d : Droppable a) (l : k < length a.rows) (least : get_or a.rows k blank ≡ least_row rule a.rows) where
   abbrev gone : Trial
   gone = (get_or a.rows k blank).trial
 
   apart : distinct (trials a.rows) ≡ true
   apart = (sound-archive a d).apart
 
-  others-left : others (leaving rule a) a.rows ≡ leave-out k a.rows
-  others-left = ap (λ r. others r.trial.number a.rows) (sym least) ∙ others-at a.rows k blank l apart
+  others_left : others (leaving rule a) a.rows ≡ leave_out k a.rows
+  others_left = ap (λ r. others r.trial.number a.rows) (sym least) ∙ others_at a.rows k blank l apart
 
-  row-gone : row_of (leaving rule a) a.rows ≡ get_or a.rows k blank
-  row-gone = ap (λ r. row_of r.trial.number a.rows) (sym least) ∙ row-of-at a.rows k blank l apart
+  row_gone : row_of (leaving rule a) a.rows ≡ get_or a.rows k blank
+  row_gone = ap (λ r. row_of r.trial.number a.rows) (sym least) ∙ row_of_at a.rows k blank l apart
 
-  rows-after : (dropped rule a).rows ≡ map (raised (without a (leaving rule a)) gone) (leave-out k a.rows)
+  rows-after : (dropped rule a).rows ≡ map (raised (without a (leaving rule a)) gone) (leave_out k a.rows)
   unfolding dropped removed
-  rows-after = ap₂ (λ r rows. map (raised (without a (leaving rule a)) r.trial) rows) row-gone others-left
+  rows-after = ap₂ (λ r rows. map (raised (without a (leaving rule a)) r.trial) rows) row_gone others_left
 
-  without-points : held-points (without a (leaving rule a)) ≡ closed k (held-points a)
+  without-points : held_points (without a (leaving rule a)) ≡ closed k (held_points a)
   unfolding without
-  without-points = ap (λ rows. points (trials rows)) others-left ∙ points-closed k a.rows
+  without-points = ap (λ rows. points (trials rows)) others_left ∙ points-closed k a.rows
 
   pub numbers_after : column 0 (dropped rule a).rows ≡ closed k (column 0 a.rows)
-  numbers_after = ap (column 0) rows-after ∙ raised-numbers (without a (leaving rule a)) gone (leave-out k a.rows) ∙ column-closed 0 k a.rows
+  numbers_after = ap (column 0) rows-after ∙ raised-numbers (without a (leaving rule a)) gone (leave_out k a.rows) ∙ column-closed 0 k a.rows
 
-  pub points-after : held-points (dropped rule a) ≡ closed k (held-points a)
+  pub points-after : held_points (dropped rule a) ≡ closed k (held_points a)
   unfolding dropped
-  points-after = ap points (removed-trials a (leaving rule a)) ∙ without-points
+  points-after = ap points (removed_trials a (leaving rule a)) ∙ without-points
 
-  shares_left : shares (without a (leaving rule a)) gone (leave-out k a.rows) ≡ joints (reference-of a) (closed k (held-points a)) (point gone)
+  shares_left : shares (without a (leaving rule a)) gone (leave_out k a.rows) ≡ joints (reference_of a) (closed k (held_points a)) (point gone)
   unfolding without
   shares_left =
-      ap (shares (without a (leaving rule a)) gone) (sym others-left)
-      ∙ sym (joints-shares (without a (leaving rule a)) gone)
-      ∙ ap (λ ps. joints (reference-of a) ps (point gone)) without-points
+      ap (shares (without a (leaving rule a)) gone) (sym others_left)
+      ∙ sym (joints_shares (without a (leaving rule a)) gone)
+      ∙ ap (λ ps. joints (reference_of a) ps (point gone)) without-points
 
-  pub kept-after : column 4 (dropped rule a).rows ≡ moved (λ v m. v + m) (closed k (column 4 a.rows)) (joints (reference-of a) (closed k (held-points a)) (point gone))
+  pub kept-after : column 4 (dropped rule a).rows ≡ moved (λ v m. v + m) (closed k (column 4 a.rows)) (joints (reference_of a) (closed k (held_points a)) (point gone))
   kept-after =
       ap (column 4) rows-after
-      ∙ raised-kept (without a (leaving rule a)) gone (leave-out k a.rows)
+      ∙ raised-kept (without a (leaving rule a)) gone (leave_out k a.rows)
       ∙ ap₂ (moved (λ v m. v + m)) (column-closed 4 k a.rows) shares_left
 
-  pub loss-is : removal-loss a (leaving rule a) ≡ gain (reference-of a) (closed k (held-points a)) (point gone)
-  unfolding removal-loss insert-gain without
-  loss-is = ap₂ (λ r ps. gain (reference-of a) ps (point r.trial)) row-gone without-points
+  pub loss-is : removal_loss a (leaving rule a) ≡ gain (reference_of a) (closed k (held_points a)) (point gone)
+  unfolding removal_loss insert_gain without
+  loss-is = ap₂ (λ r ps. gain (reference_of a) ps (point r.trial)) row_gone without-points
 
-  pub sum-after : (dropped rule a).sum ≡ a.sum - gain (reference-of a) (closed k (held-points a)) (point gone)
+  pub sum-after : (dropped rule a).sum ≡ a.sum - gain (reference_of a) (closed k (held_points a)) (point gone)
   unfolding dropped removed
   sum-after = ap (λ g. a.sum - g) loss-is

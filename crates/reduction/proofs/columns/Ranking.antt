@@ -7,27 +7,27 @@ use native.Mathlib.Omega.{arith}
 use lib.ListN.{length, get_or, get_or-map}
 use Rattle.slices.specs.Choices.{pick}
 use Rattle.words.specs.Archive.{Row}
-use Rattle.words.specs.Layout.{read-row, record-words}
+use Rattle.words.specs.Layout.{read_row, record_words}
 use Rattle.calls.specs.Calls.{goes_first}
 use Rattle.records.specs.Columns.{field_of, column}
-use Rattle.records.proofs.Columns.{length-column}
+use Rattle.records.proofs.Columns.{length_column}
 use Rattle.records.proofs.RowAt.{blank}
-use Rattle.calls.proofs.Leading.{first_more, Leading, leading-none, leading-more, leading_end}
-use Rattle.records.specs.Ranks.{ranked-row, precedes}
+use Rattle.calls.proofs.Leading.{first_more, Leading, leading_none, leading_more, leading_end}
+use Rattle.records.specs.Ranks.{ranked_row, precedes}
 use Rattle.reduction.specs.Columns.{LeastAt}
 
 -- A field of the record at a place, from its column.
-pub column-at : (k : ℕ) (rows : List Row) (i : ℕ) → field_of k blank ≡ 0 → get_or (column k rows) i 0 ≡ field_of k (get_or rows i blank)
+pub column_at : (k : ℕ) (rows : List Row) (i : ℕ) → field_of k blank ≡ 0 → get_or (column k rows) i 0 ≡ field_of k (get_or rows i blank)
 unfolding column
-column-at k rows i e = ap (get_or (column k rows) i) (sym e) ∙ get_or-map (field_of k) rows i blank
+column_at k rows i e = ap (get_or (column k rows) i) (sym e) ∙ get_or-map (field_of k) rows i blank
 
 pub number_in : (rows : List Row) (i : ℕ) → get_or (column 0 rows) i 0 ≡ (get_or rows i blank).trial.number
-unfolding field_of record-words read-row
-number_in rows i = column-at 0 rows i refl
+unfolding field_of record_words read_row
+number_in rows i = column_at 0 rows i refl
 
 pub kept_in : (rows : List Row) (i : ℕ) → get_or (column 4 rows) i 0 ≡ (get_or rows i blank).kept
-unfolding field_of record-words read-row
-kept_in rows i = column-at 4 rows i refl
+unfolding field_of record_words read_row
+kept_in rows i = column_at 4 rows i refl
 
 -- Whether the record at one place goes before that at another, from their columns.
 abbrev goes_in : (rule : ℕ) → List ℕ → List ℕ → ℕ → ℕ → Bool
@@ -45,7 +45,7 @@ pub record RankedSoFar (rule : ℕ) (numbers kept : List ℕ) (best number least
   pub leads : (rows : List Row) → column 0 rows ≡ numbers → column 4 rows ≡ kept → Leading rule rows blank best i
 
 rows_long : (rows : List Row) (numbers : List ℕ) → column 0 rows ≡ numbers → length rows ≡ length numbers
-rows_long rows numbers e = sym (length-column 0 rows) ∙ ap length e
+rows_long rows numbers e = sym (length_column 0 rows) ∙ ap length e
 
 pub ranked-none : (rule : ℕ) (numbers kept : List ℕ) → 0 < length numbers → RankedSoFar rule numbers kept 0 (get_or numbers 0 0) (get_or kept 0 0) 1
 ranked-none rule numbers kept l =
@@ -54,7 +54,7 @@ ranked-none rule numbers kept l =
       inside = omega arith;
       numbered = refl;
       is = refl;
-      leads = λ rows e f. let long : length rows ≡ length numbers = rows_long rows numbers e in leading-none rule rows blank (omega arith);
+      leads = λ rows e f. let long : length rows ≡ length numbers = rows_long rows numbers e in leading_none rule rows blank (omega arith);
     }
 
 module _ {rule : ℕ} {numbers kept : List ℕ} {best number least i : ℕ} (h : RankedSoFar rule numbers kept best number least i) (l : i < length numbers) where
@@ -62,7 +62,7 @@ module _ {rule : ℕ} {numbers kept : List ℕ} {best number least i : ℕ} (h :
   next-leads t et rows e f =
       let long : length rows ≡ length numbers = rows_long rows numbers e in
       let test : goes_first rule (get_or rows i blank) (get_or rows best blank) ≡ t = sym (goes-in-rows rule rows i best) ∙ ap₂ (λ x y. goes_in rule x y i best) e f ∙ et in
-      rw test at (leading-more (h.leads rows e f) (let m : i < length rows = omega arith in m))
+      rw test at (leading_more (h.leads rows e f) (let m : i < length rows = omega arith in m))
 
   own-test : precedes rule (get_or numbers i 0) (get_or kept i 0) number least ≡ goes_in rule numbers kept i best
   own-test = rw (h.numbered, h.is)
@@ -80,7 +80,7 @@ module _ {rule : ℕ} {numbers kept : List ℕ} {best number least i : ℕ} (h :
       }
 
   pub ranked-skip : least < get_or kept i 0 → RankedSoFar rule numbers kept best number least (i + 1)
-  ranked-skip more = ranked-stay (sym (first_more rule (ranked-row (get_or numbers i 0) (get_or kept i 0)) (ranked-row number least) (omega arith) (λ e. omega arith)))
+  ranked-skip more = ranked-stay (sym (first_more rule (ranked_row (get_or numbers i 0) (get_or kept i 0)) (ranked_row number least) (omega arith) (λ e. omega arith)))
 
   pub ranked-first : precedes rule (get_or numbers i 0) (get_or kept i 0) number least ≡ true → RankedSoFar rule numbers kept i (get_or numbers i 0) (get_or kept i 0) (i + 1)
   unfolding pick

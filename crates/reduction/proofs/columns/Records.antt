@@ -6,11 +6,11 @@ use native.Mathlib.Omega.{arith}
 use lib.ListN.{length, take, get_or}
 use lib.Seq.{take_all, get_or-take}
 use Rattle.slices.specs.Put.{put}
-use Rattle.slices.proofs.Put.{put-none}
+use Rattle.slices.proofs.Put.{put_none}
 use Rattle.words.specs.Archive.{Row, point}
-use Rattle.words.specs.Layout.{record-words, records}
-use Rattle.words.specs.Places.{as-trial}
-use Rattle.records.proofs.HeldPoints.{points-at}
+use Rattle.words.specs.Layout.{record_words, records}
+use Rattle.words.specs.Places.{as_trial}
+use Rattle.records.proofs.HeldPoints.{points_at}
 use Rattle.records.proofs.RowAt.{blank}
 use Rattle.records.proofs.Stored.{row_put}
 use Rattle.reduction.specs.Columns.{RowsInColumns}
@@ -27,13 +27,13 @@ row_in {rows} {n} {numbers} {coordinates} {kept} i h l =
     let many : length rows ≡ n = h.many in
     record {
       number_is = sym (get_or-take n numbers i 0 l) ∙ ap (λ x. get_or x i 0) h.numbered ∙ number_in rows i;
-      point-is = sym (get_or-take n coordinates i [] l) ∙ ap (λ x. get_or x i []) h.placed ∙ points-at rows i blank (omega arith);
+      point-is = sym (get_or-take n coordinates i [] l) ∙ ap (λ x. get_or x i []) h.placed ∙ points_at rows i blank (omega arith);
       kept-is = sym (get_or-take n kept i 0 l) ∙ ap (λ x. get_or x i 0) h.contributed ∙ kept_in rows i;
     }
 
 -- The record of a number, a point and a contribution.
 abbrev pub row_from : ℕ → List ℕ → ℕ → Row
-row_from number p kept = record { trial = as-trial number p; kept = kept }
+row_from number p kept = record { trial = as_trial number p; kept = kept }
 
 row_same : (r : Row) (number : ℕ) (p : List ℕ) (kept : ℕ) → RowInColumns r number p kept → row_from number p kept ≡ r
 row_same r number p kept h = rw (h.number_is, h.point-is, h.kept-is)
@@ -45,10 +45,10 @@ pub record RecordsPut (old : List ℕ) (n : ℕ) (numbers : List ℕ) (coordinat
 
 pub records-none : (old : List ℕ) (n : ℕ) (numbers : List ℕ) (coordinates : List (List ℕ)) (kept : List ℕ) → RecordsPut old n numbers coordinates kept 0 old
 unfolding records
-records-none old n numbers coordinates kept = record { part = omega arith; long = refl; is = λ rows h. sym (put-none old 8) }
+records-none old n numbers coordinates kept = record { part = omega arith; long = refl; is = λ rows h. sym (put_none old 8) }
 
 pub records-more : {old : List ℕ} {n : ℕ} {numbers : List ℕ} {coordinates : List (List ℕ)} {kept : List ℕ} {i : ℕ} {now : List ℕ} (after p : List ℕ) → RecordsPut old n numbers coordinates kept i now → i < n → 8 + 5 * n ≤ length old
-    → p ≡ get_or coordinates i [] → after ≡ put now (8 + 5 * i) (record-words (row_from (get_or numbers i 0) p (get_or kept i 0))) → length after ≡ length now
+    → p ≡ get_or coordinates i [] → after ≡ put now (8 + 5 * i) (record_words (row_from (get_or numbers i 0) p (get_or kept i 0))) → length after ≡ length now
     → RecordsPut old n numbers coordinates kept (i + 1) after
 unfolding records
 records-more {old} {n} {numbers} {coordinates} {kept} {i} {now} after p h l room ep e same =
@@ -58,8 +58,8 @@ records-more {old} {n} {numbers} {coordinates} {kept} {i} {now} after p h l room
     next rows g =
         let many : length rows ≡ n = g.many in
         let r = get_or rows i blank in
-        let words : record-words (row_from (get_or numbers i 0) p (get_or kept i 0)) ≡ record-words r =
-        ap record-words (ap (λ x. row_from (get_or numbers i 0) x (get_or kept i 0)) ep ∙ row_same r _ _ _ (row_in i g l)) in
+        let words : record_words (row_from (get_or numbers i 0) p (get_or kept i 0)) ≡ record_words r =
+        ap record_words (ap (λ x. row_from (get_or numbers i 0) x (get_or kept i 0)) ep ∙ row_same r _ _ _ (row_in i g l)) in
         row_put old now after rows i blank (omega arith) (omega arith) (h.is rows g) (e ∙ ap (put now (8 + 5 * i)) words)
 
 pub records-end : {old : List ℕ} {n : ℕ} {numbers : List ℕ} {coordinates : List (List ℕ)} {kept : List ℕ} {i : ℕ} {now : List ℕ} → RecordsPut old n numbers coordinates kept i now → n ≤ i

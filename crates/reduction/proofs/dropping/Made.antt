@@ -12,14 +12,14 @@ use Rattle.hypervolume.specs.Cells.{box}
 use Rattle.hypervolume.specs.Counts.{gain, joints}
 use Rattle.hypervolume.specs.Sorted.{Small, Sorted}
 use Rattle.words.specs.Archive.{Row, Archive, reference, point}
-use Rattle.words.proofs.Passed.{shape-bounds, box-bound}
-use Rattle.calls.specs.Calls.{reference-of, held-points, least-row, removal-loss, removed, dropped, note}
+use Rattle.words.proofs.Passed.{shape_bounds, box_bound}
+use Rattle.calls.specs.Calls.{reference_of, held_points, least_row, removal_loss, removed, dropped, note}
 use Rattle.calls.proofs.Members.{split}
-use Rattle.calls.proofs.Counted.{total-removed}
+use Rattle.calls.proofs.Counted.{total_removed}
 use Rattle.calls.proofs.Drops.{leaving, DropKeeps, drop_keeps}
 use Rattle.records.specs.Columns.{column}
-use Rattle.records.proofs.Columns.{length-column}
-use Rattle.records.proofs.HeldPoints.{length-points, sound-sorted, column-each}
+use Rattle.records.proofs.Columns.{length_column}
+use Rattle.records.proofs.HeldPoints.{length_points, sound_sorted, column_each}
 use Rattle.records.proofs.RowAt.{blank}
 use Rattle.corners.specs.Updating.{Scratch}
 use Rattle.reduction.specs.Columns.{closed, LeastNoted, RowsInColumns, InColumns, GapClosed, Droppable, Recounting}
@@ -37,9 +37,9 @@ pub room : {rows : List Row} {n : ℕ} {numbers : List ℕ} {coordinates : List 
 room {rows} {n} {numbers} {coordinates} {kept} h =
     let many : length rows ≡ n = h.many in
     record {
-      of-numbers = let e : length (take n numbers) ≡ length rows = ap length h.numbered ∙ length-column 0 rows in omega (arith, length-take n numbers);
-      of-points = let e : length (take n coordinates) ≡ length rows = ap length h.placed ∙ length-points rows in omega (arith, length-take n coordinates);
-      of-kept = let e : length (take n kept) ≡ length rows = ap length h.contributed ∙ length-column 4 rows in omega (arith, length-take n kept);
+      of-numbers = let e : length (take n numbers) ≡ length rows = ap length h.numbered ∙ length_column 0 rows in omega (arith, length-take n numbers);
+      of-points = let e : length (take n coordinates) ≡ length rows = ap length h.placed ∙ length_points rows in omega (arith, length-take n coordinates);
+      of-kept = let e : length (take n kept) ≡ length rows = ap length h.contributed ∙ length_column 4 rows in omega (arith, length-take n kept);
     }
 
 -- A bound on every number holds with one left out.
@@ -51,7 +51,7 @@ each-closed (suc k) [] limit h i = zero-le
 each-closed (suc k) (x ∷ l) limit h zero = h 0
 each-closed (suc k) (x ∷ l) limit h (suc i) = each-closed k l limit (λ j. h (suc j)) i
 
-reference-kept : (rule : ℕ) (a : Archive) → reference-of (dropped rule a) ≡ reference-of a
+reference-kept : (rule : ℕ) (a : Archive) → reference_of (dropped rule a) ≡ reference_of a
 unfolding dropped removed
 reference-kept rule a = refl
 
@@ -66,7 +66,7 @@ module _
     inside : k < length a.rows
     inside = let many : length a.rows ≡ n = h.held.many in omega arith
 
-    least : get_or a.rows k blank ≡ least-row rule a.rows
+    least : get_or a.rows k blank ≡ least_row rule a.rows
     least = c.least a.rows (sym h.held.numbered) (sym h.held.contributed)
 
     u-is : u ≡ point (get_or a.rows k blank).trial
@@ -75,34 +75,34 @@ module _
     keeps : DropKeeps rule a
     keeps = drop_keeps rule a (sound-archive a d) d.counted (omega (arith, inside))
 
-    points-left : take (n - 1) coordinates' ≡ held-points (dropped rule a)
+    points-left : take (n - 1) coordinates' ≡ held_points (dropped rule a)
     points-left = g.placed ∙ ap (closed k) h.held.placed ∙ sym (points-after rule a k d inside least)
 
-    pub recount-ready : Room n numbers coordinates kept → length coordinates' ≡ length coordinates → length kept' ≡ length kept → Recounting coordinates' kept' (n - 1) u reference
-    recount-ready r lp lk =
-        let bounds = shape-bounds a.shape d.shaped in
+    pub recount_ready : Room n numbers coordinates kept → length coordinates' ≡ length coordinates → length kept' ≡ length kept → Recounting coordinates' kept' (n - 1) u reference
+    recount_ready r lp lk =
+        let bounds = shape_bounds a.shape d.shaped in
         record {
-          points-room = let s : n ≤ length coordinates = r.of-points in omega arith;
-          kept-room = let s : n ≤ length kept = r.of-kept in omega arith;
-          sorted = subst Sorted (sym points-left) (sound-sorted (dropped rule a) keeps.sound);
-          small = subst Small (sym (e ∙ sym (get_or-take n coordinates k [] l) ∙ ap (λ x. get_or x k []) h.held.placed)) ((sound-sorted a (sound-archive a d)).small k);
-          reference-small = subst Small h.referred bounds.reference-high;
-          boxed = subst (λ r. box r ≤ 1152921504606846976) h.referred (box-bound a.shape bounds);
+          points_room = let s : n ≤ length coordinates = r.of-points in omega arith;
+          kept_room = let s : n ≤ length kept = r.of-kept in omega arith;
+          sorted = subst Sorted (sym points-left) (sound_sorted (dropped rule a) keeps.sound);
+          small = subst Small (sym (e ∙ sym (get_or-take n coordinates k [] l) ∙ ap (λ x. get_or x k []) h.held.placed)) ((sound_sorted a (sound-archive a d)).small k);
+          reference_small = subst Small h.referred bounds.reference_high;
+          boxed = subst (λ r. box r ≤ 1152921504606846976) h.referred (box_bound a.shape bounds);
           fits =
               subst (λ x. Each x 1152921504606846976) (sym (g.contributed ∙ ap (closed k) h.held.contributed))
-              (each-closed k (column 4 a.rows) 1152921504606846976 (λ i. le_trans (column-each a.shape a.rows (sound-archive a d).rows_fit i) (box-bound a.shape bounds)));
+              (each-closed k (column 4 a.rows) 1152921504606846976 (λ i. le_trans (column_each a.shape a.rows (sound-archive a d).rows_fit i) (box_bound a.shape bounds)));
         }
 
-    gain-is : (r : ℕ) → r ≡ gain reference (take (n - 1) coordinates') u → r ≡ gain (reference-of a) (closed k (held-points a)) (point (get_or a.rows k blank).trial)
-    gain-is r q =
+    gain_is : (r : ℕ) → r ≡ gain reference (take (n - 1) coordinates') u → r ≡ gain (reference_of a) (closed k (held_points a)) (point (get_or a.rows k blank).trial)
+    gain_is r q =
         q
         ∙ ap₂ (λ x y. gain x y u) (sym h.referred) (g.placed ∙ ap (closed k) h.held.placed)
-        ∙ ap (gain (reference-of a) (closed k (held-points a))) u-is
+        ∙ ap (gain (reference_of a) (closed k (held_points a))) u-is
 
     pub gain-within : (r : ℕ) → r ≡ gain reference (take (n - 1) coordinates') u → r ≤ total
     gain-within r q =
-        let loss : r ≡ removal-loss a (leaving rule a) = gain-is r q ∙ sym (loss-is rule a k d inside least) in
-        let falls = total-removed a (leaving rule a) (split (leaving rule a) a.rows keeps.known (sound-archive a d).apart) in
+        let loss : r ≡ removal_loss a (leaving rule a) = gain_is r q ∙ sym (loss-is rule a k d inside least) in
+        let falls = total_removed a (leaving rule a) (split (leaving rule a) a.rows keeps.known (sound-archive a d).apart) in
         let sum = d.counted.sum in
         let totalled : a.sum ≡ total = h.totalled in
         omega arith
@@ -111,13 +111,13 @@ module _
     kept-left kept'' q =
         q
         ∙ ap₂ (moved (λ v s. v + s)) (g.contributed ∙ ap (closed k) h.held.contributed)
-        (ap₂ (λ x y. joints x y u) (sym h.referred) (g.placed ∙ ap (closed k) h.held.placed) ∙ ap (joints (reference-of a) (closed k (held-points a))) u-is)
+        (ap₂ (λ x y. joints x y u) (sym h.referred) (g.placed ∙ ap (closed k) h.held.placed) ∙ ap (joints (reference_of a) (closed k (held_points a))) u-is)
         ∙ sym (kept-after rule a k d inside least)
 
-    number-noted : get_or (take n numbers) k 0 ≡ (least-row rule a.rows).trial.number
+    number-noted : get_or (take n numbers) k 0 ≡ (least_row rule a.rows).trial.number
     number-noted = ap (λ x. get_or x k 0) h.held.numbered ∙ number_in a.rows k ∙ ap (λ r. r.trial.number) least
 
-    kept-noted : get_or (take n kept) k 0 ≡ (least-row rule a.rows).kept
+    kept-noted : get_or (take n kept) k 0 ≡ (least_row rule a.rows).kept
     kept-noted = ap (λ x. get_or x k 0) h.held.contributed ∙ kept_in a.rows k ∙ ap (λ r. r.kept) least
 
     pub drop-made : (r : ℕ) (kept'' : List ℕ) → r ≡ gain reference (take (n - 1) coordinates') u
@@ -127,7 +127,7 @@ module _
     drop-made r kept'' q m = (
       record {
         referred = reference-kept rule a ∙ h.referred;
-        totalled = sum-after rule a k d inside least ∙ ap₂ (λ x y. x - y) h.totalled (sym (gain-is r q));
+        totalled = sum-after rule a k d inside least ∙ ap₂ (λ x y. x - y) h.totalled (sym (gain_is r q));
         held =
             record {
               many = let many : length a.rows ≡ n = h.held.many in let count : length a.rows ≡ suc (length (dropped rule a).rows) = keeps.count in omega arith;
@@ -143,8 +143,8 @@ module _
 pub room-less : {n : ℕ} {corners : List (List ℕ)} {places line counts : List ℕ} → Scratch n corners places line counts → Scratch (n - 1) corners places line counts
 room-less {n} {corners} {places} {line} {counts} s =
     record {
-      corners-room = let r : n ≤ length corners = s.corners-room in omega arith;
-      places-room = let r : n ≤ length places = s.places-room in omega arith;
-      line-room = let r : n ≤ length line = s.line-room in omega arith;
-      counts-room = let r : n ≤ length counts = s.counts-room in omega arith;
+      corners_room = let r : n ≤ length corners = s.corners_room in omega arith;
+      places_room = let r : n ≤ length places = s.places_room in omega arith;
+      line_room = let r : n ≤ length line = s.line_room in omega arith;
+      counts_room = let r : n ≤ length counts = s.counts_room in omega arith;
     }

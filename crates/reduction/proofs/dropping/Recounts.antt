@@ -7,19 +7,19 @@ use native.Mathlib.Omega.{arith}
 use lib.ListN.{length, take}
 use lib.Seq.{length-take-le, take_at}
 use Rattle.slices.specs.Spread.{Sparse}
-use Rattle.slices.specs.Amounts.{moved, Each, Placed, amounts-at}
-use Rattle.slices.proofs.Placed.{counts-low, sparse-placed, moved-sparse}
+use Rattle.slices.specs.Amounts.{moved, Each, Placed, amounts_at}
+use Rattle.slices.proofs.Placed.{counts_low, sparse_placed, moved_sparse}
 use Rattle.hypervolume.specs.Cells.{box}
 use Rattle.hypervolume.specs.Counts.{joint, joints}
-use Rattle.hypervolume.proofs.Counting.{joint-le-box}
+use Rattle.hypervolume.proofs.Counting.{joint_le_box}
 use Rattle.corners.specs.Updating.{Updating, Scratch}
-use Rattle.corners.proofs.Updates.{points-many, first-ready, some_fit}
+use Rattle.corners.proofs.Updates.{points_many, first_ready, some_fit}
 use Rattle.reduction.specs.Columns.{Recounting}
 
 -- No joint count is above the box.
 joints-part : (r : List ℕ) (all ts : List (List ℕ)) (u : List ℕ) → Each (map (λ t. joint r all u t) ts) (box r)
 joints-part r all [] u i = zero-le
-joints-part r all (t ∷ ts) u zero = joint-le-box r all u t
+joints-part r all (t ∷ ts) u zero = joint_le_box r all u t
 joints-part r all (t ∷ ts) u (suc i) = joints-part r all ts u i
 
 joints-each : (r : List ℕ) (ts : List (List ℕ)) (u : List ℕ) → Each (joints r ts u) (box r)
@@ -29,30 +29,30 @@ joints-each r ts u = joints-part r (u ∷ ts) ts u
 -- What the update asks, what raising asks, and what it leaves.
 module _ {points : List (List ℕ)} {kept : List ℕ} {m : ℕ} {u reference : List ℕ} (h : Recounting points kept m u reference) where
   kept-many : length (take m kept) ≡ length (take m points)
-  kept-many = length-take-le m kept h.kept-room ∙ sym (points-many points m h.points-room)
+  kept-many = length-take-le m kept h.kept_room ∙ sym (points_many points m h.points_room)
 
   pub update-ready : {corners : List (List ℕ)} {places line counts : List ℕ} → Scratch m corners places line counts → Updating (take m points) u reference corners places line counts
-  update-ready s = first-ready points m h.points-room h.sorted h.small h.reference-small s
+  update-ready s = first_ready points m h.points_room h.sorted h.small h.reference_small s
 
   -- A lent slice, as long as before, has room for those that moved.
   pub room_for : {all places counts : List ℕ} {some : ℕ} (old now : List ℕ) → Sparse (length (take m points)) all places counts some → m ≤ length old → length now ≡ length old → some ≤ length now
-  room_for old now s r e = omega (arith, some_fit points m h.points-room s)
+  room_for old now s r e = omega (arith, some_fit points m h.points_room s)
 
-  pub long-enough : (old now : List ℕ) → m ≤ length old → length now ≡ length old → m ≤ length now
-  long-enough old now r e = omega arith
+  pub long_enough : (old now : List ℕ) → m ≤ length old → length now ≡ length old → m ≤ length now
+  long_enough old now r e = omega arith
 
   module _ (places counts : List ℕ) (some : ℕ) where
     pub recount-raises : m ≤ length places → m ≤ length counts → Sparse (length (take m points)) (joints reference (take m points) u) places counts some
         → Placed (length (take m kept)) (take some places) (take some counts) × (Each (take m kept) 1152921504606846976 × Each (take some counts) 1152921504606846976)
     recount-raises p q s =
-        let few : some ≤ m = some_fit points m h.points-room s in
-        let placed : Placed (length (take m points)) (take some places) (take some counts) = sparse-placed s (omega arith) (omega arith) in (
+        let few : some ≤ m = some_fit points m h.points_room s in
+        let placed : Placed (length (take m points)) (take some places) (take some counts) = sparse_placed s (omega arith) (omega arith) in (
           rw kept-many placed,
-          (h.fits, counts-low 1152921504606846976 placed (subst (λ all. Each all 1152921504606846976) s.is-spread (λ i. le_trans (joints-each reference (take m points) u i) h.boxed))),
+          (h.fits, counts_low 1152921504606846976 placed (subst (λ all. Each all 1152921504606846976) s.is_spread (λ i. le_trans (joints-each reference (take m points) u i) h.boxed))),
         )
 
     pub raised-front : (after behind : List ℕ) → length after ≡ length (take m kept) → Sparse (length (take m points)) (joints reference (take m points) u) places counts some
-        → after ≡ moved (λ v s. v + s) (take m kept) (amounts-at (length (take m kept)) (take some places) (take some counts))
+        → after ≡ moved (λ v s. v + s) (take m kept) (amounts_at (length (take m kept)) (take some places) (take some counts))
         → take m (after ++ behind) ≡ moved (λ v s. v + s) (take m kept) (joints reference (take m points) u)
     raised-front after behind long s e =
-        take_at after behind m (long ∙ kept-many ∙ points-many points m h.points-room) ∙ e ∙ moved-sparse s (λ v s. v + s) (take m kept) kept-many
+        take_at after behind m (long ∙ kept-many ∙ points_many points m h.points_room) ∙ e ∙ moved_sparse s (λ v s. v + s) (take m kept) kept-many

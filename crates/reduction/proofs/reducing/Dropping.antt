@@ -7,24 +7,24 @@ use native.Mathlib.Numerals.{add-one}
 use native.Mathlib.Omega.{arith}
 use lib.ListN.{length}
 use Rattle.slices.specs.Put.{put}
-use Rattle.slices.proofs.Put.{put-none, put_then}
+use Rattle.slices.proofs.Put.{put_none, put_then}
 use Rattle.words.specs.Archive.{Archive}
-use Rattle.calls.specs.Calls.{removed, dropped, note, after-drops, notes}
+use Rattle.calls.specs.Calls.{removed, dropped, note, after_drops, notes}
 use Rattle.corners.specs.Updating.{Scratch}
 use Rattle.reduction.specs.Columns.{InColumns, Droppable, DropReady}
 use Rattle.reduction.proofs.columns.Dropping.{droppable-after}
 
 -- One drop more, at the end.
-drops-more : (rule i : ℕ) (a : Archive) → after-drops rule (suc i) a ≡ dropped rule (after-drops rule i a)
-unfolding after-drops
+drops-more : (rule i : ℕ) (a : Archive) → after_drops rule (suc i) a ≡ dropped rule (after_drops rule i a)
+unfolding after_drops
 drops-more rule zero a = refl
 drops-more rule (suc i) a = drops-more rule i (dropped rule a)
 
-notes-more : (rule i : ℕ) (a : Archive) → notes rule (suc i) a ≡ notes rule i a ++ note rule (after-drops rule i a)
-unfolding notes after-drops
+notes-more : (rule i : ℕ) (a : Archive) → notes rule (suc i) a ≡ notes rule i a ++ note rule (after_drops rule i a)
+unfolding notes after_drops
 notes-more rule zero a = append-nil (note rule a)
 notes-more rule (suc i) a =
-    ap (λ l. note rule a ++ l) (notes-more rule i (dropped rule a)) ∙ sym (append_assoc (note rule a) (notes rule i (dropped rule a)) (note rule (after-drops rule i (dropped rule a))))
+    ap (λ l. note rule a ++ l) (notes-more rule i (dropped rule a)) ∙ sym (append_assoc (note rule a) (notes rule i (dropped rule a)) (note rule (after_drops rule i (dropped rule a))))
 
 length-notes : (rule i : ℕ) (a : Archive) → length (notes rule i a) ≡ 2 * i
 unfolding notes note
@@ -40,23 +40,23 @@ pub fewer-left : (i drops : ℕ) → i < drops → drops - (i + 1) < drops - i
 fewer-left i drops l = omega arith
 
 -- Drops leave the shape.
-pub drops-shape : (rule i : ℕ) (a : Archive) → (after-drops rule i a).shape ≡ a.shape
-unfolding after-drops dropped removed
-drops-shape rule zero a = refl
-drops-shape rule (suc i) a = drops-shape rule i (dropped rule a)
+pub drops_shape : (rule i : ℕ) (a : Archive) → (after_drops rule i a).shape ≡ a.shape
+unfolding after_drops dropped removed
+drops_shape rule zero a = refl
+drops_shape rule (suc i) a = drops_shape rule i (dropped rule a)
 
 -- i drops are made from this archive.
 pub record Dropped (rule : ℕ) (a : Archive) (reference : List ℕ) (n i left : ℕ) (numbers : List ℕ) (coordinates : List (List ℕ)) (kept log₀ log : List ℕ) : Type 0 where
-  pub holds : InColumns (after-drops rule i a) reference (n - i) left numbers coordinates kept
-  pub droppable : Droppable (after-drops rule i a)
+  pub holds : InColumns (after_drops rule i a) reference (n - i) left numbers coordinates kept
+  pub droppable : Droppable (after_drops rule i a)
   pub noted : log ≡ put log₀ 0 (notes rule i a)
 
 -- What the counting writes in has 512 places each.
 pub record Fixed (corners : List (List ℕ)) (places line counts : List ℕ) : Type 0 where
-  pub corners-long : length corners ≡ 512
-  pub places-long : length places ≡ 512
-  pub line-long : length line ≡ 512
-  pub counts-long : length counts ≡ 512
+  pub corners_long : length corners ≡ 512
+  pub places_long : length places ≡ 512
+  pub line_long : length line ≡ 512
+  pub counts_long : length counts ≡ 512
 
 -- The columns at the start.
 module _ (rule : ℕ) (reference : List ℕ) (n total : ℕ) (numbers₀ : List ℕ) (coordinates₀ : List (List ℕ)) (kept₀ log₀ : List ℕ) where
@@ -70,11 +70,11 @@ module _ (rule : ℕ) (reference : List ℕ) (n total : ℕ) (numbers₀ : List 
     pub log-long : length log ≡ length log₀
 
   pub drops-none : (drops : ℕ) (corners : List (List ℕ)) (places line counts : List ℕ) → Fixed corners places line counts → DropsMade drops 0 total numbers₀ coordinates₀ kept₀ log₀ corners places line counts
-  unfolding after-drops notes
+  unfolding after_drops notes
   drops-none drops corners places line counts s =
       record {
         part = omega arith;
-        made = λ a h d. record { holds = subst (λ m. InColumns a reference m total numbers₀ coordinates₀ kept₀) (sym (sub-zero n)) h; droppable = d; noted = sym (put-none log₀ 0) };
+        made = λ a h d. record { holds = subst (λ m. InColumns a reference m total numbers₀ coordinates₀ kept₀) (sym (sub-zero n)) h; droppable = d; noted = sym (put_none log₀ 0) };
         scratch = s;
         numbers-long = refl;
         coordinates-long = refl;
@@ -90,16 +90,16 @@ module _
     pub drop-ready : DropReady reference n total numbers₀ coordinates₀ kept₀ → DropReady reference (n - i) left numbers coordinates kept
     drop-ready r =
         let one = h.made r.archive r.inside r.droppable in
-        record { archive = after-drops rule i r.archive; inside = one.holds; droppable = one.droppable }
+        record { archive = after_drops rule i r.archive; inside = one.holds; droppable = one.droppable }
 
     pub drop-room : n ≤ 512 → Scratch (n - i) corners places line counts
     drop-room few =
         let s : Fixed corners places line counts = h.scratch in
         record {
-          corners-room = let r : length corners ≡ 512 = s.corners-long in omega arith;
-          places-room = let r : length places ≡ 512 = s.places-long in omega arith;
-          line-room = let r : length line ≡ 512 = s.line-long in omega arith;
-          counts-room = let r : length counts ≡ 512 = s.counts-long in omega arith;
+          corners_room = let r : length corners ≡ 512 = s.corners_long in omega arith;
+          places_room = let r : length places ≡ 512 = s.places_long in omega arith;
+          line_room = let r : length line ≡ 512 = s.line_long in omega arith;
+          counts_room = let r : length counts ≡ 512 = s.counts_long in omega arith;
         }
 
     pub log-room : i < drops → 2 * drops ≤ length log₀ → 2 * i + 2 ≤ length log
@@ -115,7 +115,7 @@ module _
         record {
           part = omega arith;
           made = next;
-          scratch = record { corners-long = lc ∙ s.corners-long; places-long = ls ∙ s.places-long; line-long = li ∙ s.line-long; counts-long = lo ∙ s.counts-long };
+          scratch = record { corners_long = lc ∙ s.corners_long; places_long = ls ∙ s.places_long; line_long = li ∙ s.line_long; counts_long = lo ∙ s.counts_long };
           numbers-long = ln ∙ h.numbers-long;
           coordinates-long = lp ∙ h.coordinates-long;
           kept-long = lk ∙ h.kept-long;
@@ -125,16 +125,16 @@ module _
         next : (a : Archive) → InColumns a reference n total numbers₀ coordinates₀ kept₀ → Droppable a → Dropped rule a reference n (i + 1) left' numbers' coordinates' kept' log₀ log'
         next a g d =
             let one = h.made a g d in
-            let b = after-drops rule i a in
+            let b = after_drops rule i a in
             let after = drop b one.holds one.droppable in
-            let many : length (after-drops rule i a).rows ≡ n - i = one.holds.held.many in
-            let next-is : after-drops rule (i + 1) a ≡ dropped rule b = ap (λ k. after-drops rule k a) (add-one i) ∙ drops-more rule i a in
+            let many : length (after_drops rule i a).rows ≡ n - i = one.holds.held.many in
+            let next-is : after_drops rule (i + 1) a ≡ dropped rule b = ap (λ k. after_drops rule k a) (add-one i) ∙ drops-more rule i a in
             let size : length (notes rule i a) ≡ 2 * i = length-notes rule i a in
             record {
               holds =
                   subst (λ x. InColumns x reference (n - (i + 1)) left' numbers' coordinates' kept') (sym next-is)
                   (subst (λ m. InColumns (dropped rule b) reference m left' numbers' coordinates' kept') (let e : n - i - 1 ≡ n - (i + 1) = omega arith in e) after.0);
-              droppable = subst Droppable (sym next-is) (droppable-after rule b one.droppable (let m : 0 < length (after-drops rule i a).rows = omega arith in m));
+              droppable = subst Droppable (sym next-is) (droppable-after rule b one.droppable (let m : 0 < length (after_drops rule i a).rows = omega arith in m));
               noted =
                   after.1
                   ∙ ap₂ (λ x k. put x k (note rule b)) one.noted (let q : 2 * i ≡ 0 + length (notes rule i a) = omega arith in q)
@@ -143,10 +143,10 @@ module _
             }
 
     pub drops-end : drops ≤ i → (a : Archive) → InColumns a reference n total numbers₀ coordinates₀ kept₀ → Droppable a
-        → InColumns (after-drops rule drops a) reference (n - drops) left numbers coordinates kept × (log ≡ put log₀ 0 (notes rule drops a))
+        → InColumns (after_drops rule drops a) reference (n - drops) left numbers coordinates kept × (log ≡ put log₀ 0 (notes rule drops a))
     drops-end l a g d =
         let e : i ≡ drops = (let part : i ≤ drops = h.part in omega arith) in
         let one = h.made a g d in (
-          subst (λ k. InColumns (after-drops rule k a) reference (n - k) left numbers coordinates kept) e one.holds,
+          subst (λ k. InColumns (after_drops rule k a) reference (n - k) left numbers coordinates kept) e one.holds,
           one.noted ∙ ap (λ k. put log₀ 0 (notes rule k a)) e,
         )

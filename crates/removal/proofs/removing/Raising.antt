@@ -9,125 +9,125 @@ use borrow.Author.Tests.{lt-ltb, le-ltb}
 use lib.ListN.{length, get_or, take}
 use Rattle.slices.specs.Choices.{either}
 use Rattle.slices.specs.Spread.{Sparse}
-use Rattle.slices.specs.Amounts.{some_pair, Each, Placed, amounts-at}
-use Rattle.slices.proofs.Placed.{counts-low}
-use Rattle.hypervolume.proofs.Counting.{joint-le-box}
+use Rattle.slices.specs.Amounts.{some_pair, Each, Placed, amounts_at}
+use Rattle.slices.proofs.Placed.{counts_low}
+use Rattle.hypervolume.proofs.Counting.{joint_le_box}
 use Rattle.corners.specs.declared.Updated.{Updated}
 use Rattle.words.specs.Archive.{Trial, Row, Archive, point}
 use Rattle.words.specs.Layout.{read, word}
-use Rattle.words.specs.Format.{archive-rows}
+use Rattle.words.specs.Format.{archive_rows}
 use Rattle.words.specs.Places.{rows_before, row_at}
-use Rattle.calls.specs.Calls.{reference-of, held-points, box_of, insert-gain, joint-with, row_of, others, without, removal-loss, exceeds, remove-overruns}
-use Rattle.records.specs.Columns.{column, leave-out}
+use Rattle.calls.specs.Calls.{reference_of, held_points, box_of, insert_gain, joint_with, row_of, others, without, removal_loss, exceeds, remove_overruns}
+use Rattle.records.specs.Columns.{column, leave_out}
 use Rattle.records.specs.Amounts.{shares}
 use Rattle.ask.specs.RecordCounts.{CountedJoints}
-use Rattle.removal.specs.Removing.{number_at, removal-shares, RemoveAmounts}
-use Rattle.records.proofs.HeldPoints.{column-each}
-use Rattle.records.proofs.LeaveOut.{others-at, row-of-at, length-leave-out, left-allowed}
-use Rattle.calls.proofs.Known.{count-rows, known}
-use Rattle.records.proofs.MovedAmounts.{exceeds-pairs}
-use Rattle.records.proofs.RowAt.{blank, row-there}
-use Rattle.ask.proofs.CountedAmounts.{amounts-gain, amounts-shares}
+use Rattle.removal.specs.Removing.{number_at, removal_shares, RemoveAmounts}
+use Rattle.records.proofs.HeldPoints.{column_each}
+use Rattle.records.proofs.LeaveOut.{others_at, row_of_at, length_leave_out, left_allowed}
+use Rattle.calls.proofs.Known.{count_rows, known}
+use Rattle.records.proofs.MovedAmounts.{exceeds_pairs}
+use Rattle.records.proofs.RowAt.{blank, row_there}
+use Rattle.ask.proofs.CountedAmounts.{amounts_gain, amounts_shares}
 
 -- The record at a place, by its number: the one of that number, and the others.
 pub record Removing (w : List ℕ) (k : ℕ) : Type 0 where
-  pub rest : others (number_at w k) (read w).rows ≡ leave-out k (read w).rows
+  pub rest : others (number_at w k) (read w).rows ≡ leave_out k (read w).rows
   pub gone : row_of (number_at w k) (read w).rows ≡ row_at w k
-  pub many : length (leave-out k (read w).rows) ≡ word w 0 - 1
+  pub many : length (leave_out k (read w).rows) ≡ word w 0 - 1
 
-pub removing : (w : List ℕ) (k : ℕ) → archive-rows w 0 ≡ 0 → k < word w 0 → Removing w k
+pub removing : (w : List ℕ) (k : ℕ) → archive_rows w 0 ≡ 0 → k < word w 0 → Removing w k
 unfolding read
 removing w k p l =
-    let size : length (rows_before w (word w 0)) ≡ word w 0 = count-rows w in
-    let here : get_or (rows_before w (word w 0)) k blank ≡ row_at w k = row-there w (word w 0) k l in
+    let size : length (rows_before w (word w 0)) ≡ word w 0 = count_rows w in
+    let here : get_or (rows_before w (word w 0)) k blank ≡ row_at w k = row_there w (word w 0) k l in
     let inside : k < length (rows_before w (word w 0)) = omega arith in
     let apart = (known w p).sound.apart in
-    let left : suc (length (leave-out k (rows_before w (word w 0)))) ≡ length (rows_before w (word w 0)) = length-leave-out k (rows_before w (word w 0)) inside in
+    let left : suc (length (leave_out k (rows_before w (word w 0)))) ≡ length (rows_before w (word w 0)) = length_leave_out k (rows_before w (word w 0)) inside in
     record {
-      rest = ap (λ r. others r.trial.number (rows_before w (word w 0))) (sym here) ∙ others-at (rows_before w (word w 0)) k blank inside apart;
-      gone = ap (λ r. row_of r.trial.number (rows_before w (word w 0))) (sym here) ∙ row-of-at (rows_before w (word w 0)) k blank inside apart ∙ here;
+      rest = ap (λ r. others r.trial.number (rows_before w (word w 0))) (sym here) ∙ others_at (rows_before w (word w 0)) k blank inside apart;
+      gone = ap (λ r. row_of r.trial.number (rows_before w (word w 0))) (sym here) ∙ row_of_at (rows_before w (word w 0)) k blank inside apart ∙ here;
       many = omega arith;
     }
 
 -- The removal's counted amounts.
-module _ {w : List ℕ} {k : ℕ} (p : archive-rows w 0 ≡ 0) (l : k < word w 0) {q places counts : List ℕ} {r : Updated} (here : q ≡ point (row_at w k).trial) (c : CountedJoints w k q places counts r) where
-  rest-rows : (without (read w) (number_at w k)).rows ≡ leave-out k (read w).rows
+module _ {w : List ℕ} {k : ℕ} (p : archive_rows w 0 ≡ 0) (l : k < word w 0) {q places counts : List ℕ} {r : Updated} (here : q ≡ point (row_at w k).trial) (c : CountedJoints w k q places counts r) where
+  rest-rows : (without (read w) (number_at w k)).rows ≡ leave_out k (read w).rows
   unfolding without
   rest-rows = (removing w k p l).rest
 
-  pub loss-counted : r.gain ≡ removal-loss (read w) (number_at w k)
-  unfolding removal-loss without
+  pub loss-counted : r.gain ≡ removal_loss (read w) (number_at w k)
+  unfolding removal_loss without
   loss-counted =
-      amounts-gain (without (read w) (number_at w k)) (row_at w k).trial refl rest-rows here c
-      ∙ ap (λ x. insert-gain (without (read w) (number_at w k)) x.trial) (sym (removing w k p l).gone)
+      amounts_gain (without (read w) (number_at w k)) (row_at w k).trial refl rest-rows here c
+      ∙ ap (λ x. insert_gain (without (read w) (number_at w k)) x.trial) (sym (removing w k p l).gone)
 
-  pub shares-counted : Sparse (word w 0 - 1) (removal-shares w k) places counts r.moved
+  pub shares-counted : Sparse (word w 0 - 1) (removal_shares w k) places counts r.moved
   unfolding without
   shares-counted =
-      subst (λ n. Sparse n (removal-shares w k) places counts r.moved) (removing w k p l).many
+      subst (λ n. Sparse n (removal_shares w k) places counts r.moved) (removing w k p l).many
       (subst (λ x. Sparse (length x) (shares (without (read w) (number_at w k)) (row_at w k).trial x) places counts r.moved) rest-rows
-      (amounts-shares (without (read w) (number_at w k)) (row_at w k).trial refl rest-rows here c))
+      (amounts_shares (without (read w) (number_at w k)) (row_at w k).trial refl rest-rows here c))
 
 -- Every joint count is at most the box.
 shares_each : (a : Archive) (t : Trial) (rows : List Row) → Each (shares a t rows) (box_of a)
-unfolding shares joint-with
+unfolding shares joint_with
 shares_each a t [] i = zero-le
-shares_each a t (r ∷ rows) zero = joint-le-box (reference-of a) (point t ∷ held-points a) (point t) (point r.trial)
+shares_each a t (r ∷ rows) zero = joint_le_box (reference_of a) (point t ∷ held_points a) (point t) (point r.trial)
 shares_each a t (r ∷ rows) (suc i) = shares_each a t rows i
 
-pub kept-each : (w : List ℕ) (k : ℕ) → archive-rows w 0 ≡ 0 → Each (column 4 (leave-out k (read w).rows)) (box_of (read w))
-kept-each w k p = column-each (read w).shape (leave-out k (read w).rows) (left-allowed (read w).shape (read w).rows k (known w p).sound.rows_fit)
+pub kept-each : (w : List ℕ) (k : ℕ) → archive_rows w 0 ≡ 0 → Each (column 4 (leave_out k (read w).rows)) (box_of (read w))
+kept-each w k p = column_each (read w).shape (leave_out k (read w).rows) (left_allowed (read w).shape (read w).rows k (known w p).sound.rows_fit)
 
-pub joints-each : (w : List ℕ) (k : ℕ) → Each (removal-shares w k) (box_of (read w))
+pub joints-each : (w : List ℕ) (k : ℕ) → Each (removal_shares w k) (box_of (read w))
 unfolding without
-joints-each w k = shares_each (without (read w) (number_at w k)) (row_at w k).trial (leave-out k (read w).rows)
+joints-each w k = shares_each (without (read w) (number_at w k)) (row_at w k).trial (leave_out k (read w).rows)
 
 -- So no count at a place is above the box.
 pub placed-low : (w : List ℕ) (k : ℕ) {places counts : List ℕ} → Placed (word w 0 - 1) places counts
-    → amounts-at (word w 0 - 1) places counts ≡ removal-shares w k
+    → amounts_at (word w 0 - 1) places counts ≡ removal_shares w k
     → Each counts (box_of (read w))
-placed-low w k h e = counts-low (box_of (read w)) h (subst (λ l. Each l (box_of (read w))) (sym e) (joints-each w k))
+placed-low w k h e = counts_low (box_of (read w)) h (subst (λ l. Each l (box_of (read w))) (sym e) (joints-each w k))
 
 -- What the test of the contributions asks.
-pub low-asked : (w : List ℕ) (k : ℕ) {places counts : List ℕ} (limit : ℕ) → archive-rows w 0 ≡ 0 → limit ≡ box_of (read w) → Placed (word w 0 - 1) places counts
-    → amounts-at (word w 0 - 1) places counts ≡ removal-shares w k
-    → Each (column 4 (leave-out k (rows_before w (word w 0)))) limit × Each counts limit
+pub low-asked : (w : List ℕ) (k : ℕ) {places counts : List ℕ} (limit : ℕ) → archive_rows w 0 ≡ 0 → limit ≡ box_of (read w) → Placed (word w 0 - 1) places counts
+    → amounts_at (word w 0 - 1) places counts ≡ removal_shares w k
+    → Each (column 4 (leave_out k (rows_before w (word w 0)))) limit × Each counts limit
 unfolding read
 low-asked w k {counts = counts} limit p e h s =
-    subst (λ b. Each (column 4 (leave-out k (read w).rows)) b × Each counts b) (sym e) (kept-each w k p, placed-low w k h s)
+    subst (λ b. Each (column 4 (leave_out k (read w).rows)) b × Each counts b) (sym e) (kept-each w k p, placed-low w k h s)
 
 -- The two ways out of `raised`.
-module _ (w : List ℕ) (k : ℕ) (p : archive-rows w 0 ≡ 0) (l : k < word w 0) {places counts : List ℕ} {r m : ℕ} (lost : r ≡ removal-loss (read w) (number_at w k)) (each : Sparse (word w 0 - 1) (removal-shares w k) places counts m) where
+module _ (w : List ℕ) (k : ℕ) (p : archive_rows w 0 ≡ 0) (l : k < word w 0) {places counts : List ℕ} {r m : ℕ} (lost : r ≡ removal_loss (read w) (number_at w k)) (each : Sparse (word w 0 - 1) (removal_shares w k) places counts m) where
   pub raised-over : word w 5 < r → RemoveAmounts w k places counts (record { amount = r; places = m; fits = false })
-  unfolding remove-overruns either read
+  unfolding remove_overruns either read
   raised-over h =
       record {
         lost = lost;
-        judged = sym (ap not (ap (λ x. either x (exceeds (without (read w) (number_at w k)) (row_of (number_at w k) (read w).rows).trial (others (number_at w k) (read w).rows))) (lt-ltb (word w 5) (removal-loss (read w) (number_at w k)) (let s : word w 5 < removal-loss (read w) (number_at w k) = rw (← lost) h in s))));
+        judged = sym (ap not (ap (λ x. either x (exceeds (without (read w) (number_at w k)) (row_of (number_at w k) (read w).rows).trial (others (number_at w k) (read w).rows))) (lt-ltb (word w 5) (removal_loss (read w) (number_at w k)) (let s : word w 5 < removal_loss (read w) (number_at w k) = rw (← lost) h in s))));
         each = each;
       }
 
-  behind-total : r ≤ word w 5 → remove-overruns (read w) (number_at w k) ≡ some_pair (λ v m. ltb (box_of (read w)) (v + m)) (column 4 (leave-out k (read w).rows)) (removal-shares w k)
-  unfolding remove-overruns either read without
+  behind-total : r ≤ word w 5 → remove_overruns (read w) (number_at w k) ≡ some_pair (λ v m. ltb (box_of (read w)) (v + m)) (column 4 (leave_out k (read w).rows)) (removal_shares w k)
+  unfolding remove_overruns either read without
   behind-total h =
-      ap (λ x. either x (exceeds (without (read w) (number_at w k)) (row_of (number_at w k) (read w).rows).trial (others (number_at w k) (read w).rows))) (le-ltb (word w 5) (removal-loss (read w) (number_at w k)) (let s : removal-loss (read w) (number_at w k) ≤ word w 5 = rw (← lost) h in s))
+      ap (λ x. either x (exceeds (without (read w) (number_at w k)) (row_of (number_at w k) (read w).rows).trial (others (number_at w k) (read w).rows))) (le-ltb (word w 5) (removal_loss (read w) (number_at w k)) (let s : removal_loss (read w) (number_at w k) ≤ word w 5 = rw (← lost) h in s))
       ∙ ap₂ (λ x y. exceeds (without (read w) (number_at w k)) x.trial y) (removing w k p l).gone (removing w k p l).rest
-      ∙ exceeds-pairs (without (read w) (number_at w k)) (row_at w k).trial (leave-out k (read w).rows)
+      ∙ exceeds_pairs (without (read w) (number_at w k)) (row_at w k).trial (leave_out k (read w).rows)
 
   pub raised-judged : {limit : ℕ} {b : Bool} → r ≤ word w 5 → limit ≡ box_of (read w)
-      → b ≡ not (some_pair (λ v m. ltb limit (v + m)) (column 4 (leave-out k (rows_before w (word w 0)))) (amounts-at (word w 0 - 1) (take m places) (take m counts)))
+      → b ≡ not (some_pair (λ v m. ltb limit (v + m)) (column 4 (leave_out k (rows_before w (word w 0)))) (amounts_at (word w 0 - 1) (take m places) (take m counts)))
       → RemoveAmounts w k places counts (record { amount = r; places = m; fits = b })
   unfolding read
   raised-judged h e j =
       record {
         lost = lost;
-        judged = j ∙ ap not (ap₂ (λ x ms. some_pair (λ v m. ltb x (v + m)) (column 4 (leave-out k (read w).rows)) ms) e (sym each.is-spread) ∙ sym (behind-total h));
+        judged = j ∙ ap not (ap₂ (λ x ms. some_pair (λ v m. ltb x (v + m)) (column 4 (leave_out k (read w).rows)) ms) e (sym each.is_spread) ∙ sym (behind-total h));
         each = each;
       }
 
-pub box-fits : (w : List ℕ) → archive-rows w 0 ≡ 0 → box_of (read w) ≤ 1152921504606846976
+pub box_fits : (w : List ℕ) → archive_rows w 0 ≡ 0 → box_of (read w) ≤ 1152921504606846976
 unfolding read
-box-fits w p = (known w p).box-small
+box_fits w p = (known w p).box_small
 
-pub limit-fits : (w : List ℕ) (limit : ℕ) → archive-rows w 0 ≡ 0 → limit ≡ box_of (read w) → limit ≤ 1152921504606846976
-limit-fits w limit p e = rw e (box-fits w p)
+pub limit-fits : (w : List ℕ) (limit : ℕ) → archive_rows w 0 ≡ 0 → limit ≡ box_of (read w) → limit ≤ 1152921504606846976
+limit-fits w limit p e = rw e (box_fits w p)

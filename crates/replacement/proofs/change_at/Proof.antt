@@ -7,9 +7,9 @@ use Rattle.words.specs.Archive.{point}
 use Rattle.words.specs.Places.{row_at}
 use Rattle.words.proofs.Places.{held_small, point_at}
 use Rattle.calls.specs.Replacement.{difference}
-use Rattle.replacement.specs.Others.{gain-but}
+use Rattle.replacement.specs.Others.{gain_but}
 use Rattle.replacement.proofs.Differences.{through}
-use Rattle.replacement.proofs.Places.{gain-few}
+use Rattle.replacement.proofs.Places.{gain_few}
 use Rattle.replacement.proofs.change_at.Statement.{statement}
 use Rattle.replacement.proofs.change_at.Tie as tie
 
@@ -27,15 +27,15 @@ gain-but-requires-2 c κs = (c.before.before.before.requires.0, c.before.before.
 
 difference-requires : tie.Need-difference-requires
 difference-requires c κs =
-    let new = gain-few c.before.before.before.before.args.w.now c.before.before.before.before.args.i c.before.before.before.before.args.p.at c.before.before.before.before.requires.0 in
-    let own = gain-few c.before.before.before.before.args.w.now c.before.before.before.before.args.i c.before.record-at.result.point.at c.before.before.before.before.requires.0 in
-    (omega (arith, new, own, c.before.before.gain-but.ensures, c.gain-but2.ensures), omega (arith, new, own, c.before.before.gain-but.ensures, c.gain-but2.ensures))
+    let new = gain_few c.before.before.before.before.args.w.now c.before.before.before.before.args.i c.before.before.before.before.args.p.at c.before.before.before.before.requires.0 in
+    let own = gain_few c.before.before.before.before.args.w.now c.before.before.before.before.args.i c.before.record-at.result.point.at c.before.before.before.before.requires.0 in
+    (omega (arith, new, own, c.before.before.gain_but.ensures, c.gain-but2.ensures), omega (arith, new, own, c.before.before.gain_but.ensures, c.gain-but2.ensures))
 
 returns : tie.Need-returns
 returns c =
-    through _ (gain-few c.before.before.before.before.before.args.w.now _ _ c.before.before.before.before.before.requires.0) _ (gain-few c.before.before.before.before.before.args.w.now _ _ c.before.before.before.before.before.requires.0) _
+    through _ (gain_few c.before.before.before.before.before.args.w.now _ _ c.before.before.before.before.before.requires.0) _ (gain_few c.before.before.before.before.before.args.w.now _ _ c.before.before.before.before.before.requires.0) _
     (c.difference.ensures
-    ∙ ap₂ difference c.before.before.before.gain-but.ensures (c.before.gain-but2.ensures ∙ ap (gain-but c.before.before.before.before.before.args.w.now c.before.before.before.before.before.args.i) (read-point c.before.before)))
+    ∙ ap₂ difference c.before.before.before.gain_but.ensures (c.before.gain-but2.ensures ∙ ap (gain_but c.before.before.before.before.before.args.w.now c.before.before.before.before.before.args.i) (read-point c.before.before)))
 
 pub change-at-spec : {M : Type 1} → statement M
 change-at-spec =

@@ -1,6 +1,6 @@
 -- `gain_but` meets its contract: the gain of the count over the other records.
 use borrow.Author.Rules.{rules}
-use Rattle.replacement.specs.Others.{gain-but}
+use Rattle.replacement.specs.Others.{gain_but}
 use Rattle.replacement.proofs.gain_but.Statement.{statement}
 use Rattle.replacement.proofs.gain_but.Tie as tie
 
@@ -14,7 +14,7 @@ count-joints-requires : tie.Need-count-joints-requires
 count-joints-requires c κs = search rules
 
 returns : tie.Need-returns
-unfolding gain-but
+unfolding gain_but
 returns c = c.before.before.count-joints.ensures.whole
 
 pub gain-but-spec : {M : Type 1} → statement M

@@ -1,7 +1,7 @@
 -- `replace_effect` meets its contract: rows 1 to 3 refuse, or the inner function answers.
 use mathlib.Core.Path.{◌∙◌}
 use borrow.Author.Rules.{rules}
-use Rattle.replacement.proofs.Places.{effect-turned}
+use Rattle.replacement.proofs.Places.{effect_turned}
 use Rattle.replacement.proofs.replace_effect.Statement.{statement}
 use Rattle.replacement.proofs.replace_effect.Tie as tie
 
@@ -12,7 +12,7 @@ refused-requires : tie.Need-refused-requires
 refused-requires c κs = search rules
 
 returns : tie.Need-returns
-returns c = c.refused.ensures ∙ effect-turned _ _ _ _ c.before.before.refusal.ensures c.before.if1.true
+returns c = c.refused.ensures ∙ effect_turned _ _ _ _ c.before.before.refusal.ensures c.before.if1.true
 
 replace-in-requires : tie.Need-replace-in-requires
 replace-in-requires c κs = search rules

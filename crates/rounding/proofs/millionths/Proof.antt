@@ -2,7 +2,7 @@
 use Prim.Native.Nat.{◌-◌}
 use mathlib.Core.Path.{◌∙◌}
 use native.Mathlib.Omega.{arith}
-use Rattle.rounding.proofs.Digits.{Dividing, dividing-none, dividing-more, dividing-end, digit-fits}
+use Rattle.rounding.proofs.Digits.{Dividing, dividing_none, dividing_more, dividing_end, digit_fits}
 use Rattle.rounding.proofs.millionths.Statement.{statement}
 use Rattle.rounding.proofs.millionths.Tie as tie
 
@@ -19,7 +19,7 @@ rem-rest : tie.Need-nonzero-rem-rest invariant-loop decreases-loop
 rem-rest c = omega arith
 
 loop-holds : tie.Need-loop-init invariant-loop decreases-loop
-loop-holds c = dividing-none _ _ c.requires.0 c.requires.1
+loop-holds c = dividing_none _ _ c.requires.0 c.requires.1
 
 mul-quotient : tie.Need-overflow-mul-quotient invariant-loop decreases-loop
 mul-quotient c = omega arith
@@ -32,7 +32,7 @@ div-quotient-2 c = omega arith
 
 add-quotient : tie.Need-overflow-add-quotient invariant-loop decreases-loop
 add-quotient c =
-    omega (arith, digit-fits c.before.loop.invariant c.loop-test.true c.before.before.requires.0 c.before.before.requires.1)
+    omega (arith, digit_fits c.before.loop.invariant c.loop-test.true c.before.before.requires.0 c.before.before.requires.1)
 
 mul-rest : tie.Need-overflow-mul-rest invariant-loop decreases-loop
 mul-rest c = omega arith
@@ -48,14 +48,14 @@ loop-less c = omega arith
 
 loop-again : tie.Need-loop-preserved invariant-loop decreases-loop
 loop-again c =
-    dividing-more c.before.loop.invariant c.loop-test.true c.before.before.requires.0 c.before.before.requires.1
+    dividing_more c.before.loop.invariant c.loop-test.true c.before.before.requires.0 c.before.before.requires.1
 
 rounded-requires : tie.Need-rounded-requires invariant-loop decreases-loop
 rounded-requires c κs =
     (omega (arith, c.before.loop.invariant.small), omega (arith, c.before.loop.invariant.below), omega arith)
 
 returns : tie.Need-returns invariant-loop decreases-loop
-returns c = c.rounded.ensures ∙ dividing-end c.before.before.loop.invariant c.before.loop-test.false
+returns c = c.rounded.ensures ∙ dividing_end c.before.before.loop.invariant c.before.loop-test.false
 
 pub millionths-spec : {M : Type 1} → statement M
 millionths-spec =

@@ -1,8 +1,8 @@
 -- `sixfold::print` meets its contract: the line of a refusal, or the six reports of what the words hold.
 use borrow.Author.Rules.{rules}
-use Rattle.printing.proofs.Printouts.{print-text}
-use Rattle.sixfold.specs.Six.{six-text}
-use Rattle.sixfold.proofs.Reports.{enough-for}
+use Rattle.printing.proofs.Printouts.{print_text}
+use Rattle.sixfold.specs.Six.{six_text}
+use Rattle.sixfold.proofs.Reports.{enough_for}
 use Rattle.sixfold.proofs.print.Statement.{statement}
 use Rattle.sixfold.proofs.print.Tie as tie
 
@@ -19,7 +19,7 @@ same_length : tie.Need-same-length
 same_length c = search rules
 
 returns : tie.Need-returns
-returns c = c.before.before.before.before.load-card.ensures.refused c.if1.true six-text
+returns c = c.before.before.before.before.load-card.ensures.refused c.if1.true six_text
 
 long-enough-requires-2 : tie.Need-long-enough-requires-2
 long-enough-requires-2 c κs = search rules
@@ -34,7 +34,7 @@ put-six-requires : tie.Need-put-six-requires
 put-six-requires c κs =
     let loads = c.before.before.before.before.before.before.before.before.load-card.ensures in
     let passes = (loads.accepted c.before.before.before.before.if1.false).0.passes in
-    (passes, enough-for _ passes c.before.before.before.long-enough2.ensures, search rules)
+    (passes, enough_for _ passes c.before.before.before.long-enough2.ensures, search rules)
 
 same-length-2 : tie.Need-same-length-2
 same-length-2 c = search rules
@@ -43,7 +43,7 @@ returns-2 : tie.Need-returns-2
 returns-2 c =
     let loads = c.before.before.before.before.before.before.before.before.before.before.before.before.load-card.ensures in
     let six = c.before.before.before.put_six.ensures in
-    print-text six-text _ loads c.before.before.before.before.before.before.before.before.if1.false six.0 six.1
+    print_text six_text _ loads c.before.before.before.before.before.before.before.before.if1.false six.0 six.1
 
 pub print-spec : {M : Type 1} → statement M
 print-spec =

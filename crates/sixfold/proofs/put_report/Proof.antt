@@ -1,6 +1,6 @@
 -- `sixfold::put_report` meets its contract: the report of the archive rearranged, which passes again.
 use borrow.Author.Rules.{rules}
-use Rattle.sixfold.proofs.Reports.{report-put}
+use Rattle.sixfold.proofs.Reports.{report_put}
 use Rattle.sixfold.proofs.put_report.Statement.{statement}
 use Rattle.sixfold.proofs.put_report.Tie as tie
 
@@ -28,7 +28,7 @@ same-length-2 c = search rules
 returns : tie.Need-returns
 returns c =
     let asked = c.before.before.before.before.before.before.before.before.before.before.before.before.requires in
-    report-put _ _ asked.0 asked.1 _ c.before.before.before.before.before.before.before.write.ensures _ _ asked.3 c.before.before.report.ensures
+    report_put _ _ asked.0 asked.1 _ c.before.before.before.before.before.before.before.write.ensures _ _ asked.3 c.before.before.report.ensures
 
 pub put-report-spec : {M : Type 1} → statement M
 put-report-spec =

@@ -1,7 +1,7 @@
 -- `clear` meets its contract.
 use Prim.Native.Nat.{◌-◌}
 use borrow.Author.Rules.{rules}
-use Rattle.slices.proofs.Moves.{Clearing, clearing-none, clearing-more, clearing-end}
+use Rattle.slices.proofs.Moves.{Clearing, clearing_none, clearing_more, clearing_end}
 use Rattle.slices.proofs.clear.Statement.{statement}
 use Rattle.slices.proofs.clear.Tie as tie
 
@@ -12,7 +12,7 @@ abbrev decreases-loop : tie.decreases-loop
 decreases-loop w₀ at n i₀ w i = n - i
 
 loop-holds : tie.Need-loop-init invariant-loop decreases-loop
-loop-holds c = clearing-none _ _ _ c.requires
+loop-holds c = clearing_none _ _ _ c.requires
 
 add-w : tie.Need-overflow-add-w invariant-loop decreases-loop
 add-w c = search rules
@@ -30,13 +30,13 @@ loop-less : tie.Need-loop-smaller invariant-loop decreases-loop
 loop-less c = search rules
 
 loop-again : tie.Need-loop-preserved invariant-loop decreases-loop
-loop-again c = clearing-more c.before.loop.invariant c.loop-test.true
+loop-again c = clearing_more c.before.loop.invariant c.loop-test.true
 
 same_length : tie.Need-same-length invariant-loop decreases-loop
 same_length c = search rules
 
 returns : tie.Need-returns invariant-loop decreases-loop
-returns c = clearing-end c.before.loop.invariant c.loop-test.false
+returns c = clearing_end c.before.loop.invariant c.loop-test.false
 
 pub clear_spec : {M : Type 1} → statement M
 clear_spec =

@@ -1,7 +1,7 @@
 -- `move_down` meets its contract: a word is read before another is written over it.
 use Prim.Native.Nat.{◌-◌}
 use borrow.Author.Rules.{rules}
-use Rattle.slices.proofs.Moves.{Lowering, lowering-none, lowering-more, lowering-end}
+use Rattle.slices.proofs.Moves.{Lowering, lowering_none, lowering_more, lowering_end}
 use Rattle.slices.proofs.move_down.Statement.{statement}
 use Rattle.slices.proofs.move_down.Tie as tie
 
@@ -12,7 +12,7 @@ abbrev decreases-loop : tie.decreases-loop
 decreases-loop w₀ at n by i₀ w i = n - i
 
 loop-holds : tie.Need-loop-init invariant-loop decreases-loop
-loop-holds c = lowering-none _ _ _ _ c.requires
+loop-holds c = lowering_none _ _ _ _ c.requires
 
 add-w : tie.Need-overflow-add-w invariant-loop decreases-loop
 add-w c = search rules
@@ -42,13 +42,13 @@ loop-less : tie.Need-loop-smaller invariant-loop decreases-loop
 loop-less c = search rules
 
 loop-again : tie.Need-loop-preserved invariant-loop decreases-loop
-loop-again c = lowering-more c.before.before.loop.invariant c.before.loop-test.true
+loop-again c = lowering_more c.before.before.loop.invariant c.before.loop-test.true
 
 same_length : tie.Need-same-length invariant-loop decreases-loop
 same_length c = search rules
 
 returns : tie.Need-returns invariant-loop decreases-loop
-returns c = lowering-end c.before.loop.invariant c.loop-test.false
+returns c = lowering_end c.before.loop.invariant c.loop-test.false
 
 pub move_down_spec : {M : Type 1} → statement M
 move_down_spec =

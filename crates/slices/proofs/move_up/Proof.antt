@@ -1,6 +1,6 @@
 -- `move_up` meets its contract: the last words are moved first, so none is lost.
 use borrow.Author.Rules.{rules}
-use Rattle.slices.proofs.Moves.{Raising, raising-none, raising-more, raising-end}
+use Rattle.slices.proofs.Moves.{Raising, raising_none, raising_more, raising_end}
 use Rattle.slices.proofs.move_up.Statement.{statement}
 use Rattle.slices.proofs.move_up.Tie as tie
 
@@ -11,7 +11,7 @@ abbrev decreases-loop : tie.decreases-loop
 decreases-loop w₀ at n by left₀ w left = left
 
 loop-holds : tie.Need-loop-init invariant-loop decreases-loop
-loop-holds c = raising-none _ _ _ _ c.requires
+loop-holds c = raising_none _ _ _ _ c.requires
 
 sub-left : tie.Need-overflow-sub-left invariant-loop decreases-loop
 sub-left c = search rules
@@ -41,13 +41,13 @@ loop-less : tie.Need-loop-smaller invariant-loop decreases-loop
 loop-less c = search rules
 
 loop-again : tie.Need-loop-preserved invariant-loop decreases-loop
-loop-again c = raising-more c.before.before.loop.invariant c.before.loop-test.true
+loop-again c = raising_more c.before.before.loop.invariant c.before.loop-test.true
 
 same_length : tie.Need-same-length invariant-loop decreases-loop
 same_length c = search rules
 
 returns : tie.Need-returns invariant-loop decreases-loop
-returns c = raising-end c.before.loop.invariant c.loop-test.false
+returns c = raising_end c.before.loop.invariant c.loop-test.false
 
 pub move_up_spec : {M : Type 1} → statement M
 move_up_spec =

@@ -1,6 +1,6 @@
 -- `look_back` meets its contract. The invariant: the column of the entries from k on.
 use mathlib.Core.Path.{sym, ◌∙◌}
-use Rattle.strips.proofs.LookBackLaws.{Looked, looked-none, looked-more, looked-stop, looked-all}
+use Rattle.strips.proofs.LookBackLaws.{Looked, looked_none, looked_more, looked_stop, looked_all}
 use borrow.Author.Rules.{rules}
 use Rattle.strips.proofs.look_back.Statement.{statement}
 use Rattle.strips.proofs.look_back.Tie as tie
@@ -12,7 +12,7 @@ abbrev decreases-loop : tie.decreases-loop
 decreases-loop line ry column₀ k₀ column k = k
 
 loop-holds : tie.Need-loop-init invariant-loop decreases-loop
-loop-holds c = looked-none _ _ c.before.requires
+loop-holds c = looked_none _ _ c.before.requires
 
 sub-entry : tie.Need-overflow-sub-entry invariant-loop decreases-loop
 sub-entry c = search rules
@@ -39,7 +39,7 @@ returns : tie.Need-returns invariant-loop decreases-loop
 returns c =
     let column = c.before.before in
     let turn = column.before.before.before.before in
-    looked-stop turn.before.loop.invariant turn.loop-test.true column.before.before.y_of.ensures column.before.index_of.ensures column.with.ensures
+    looked_stop turn.before.loop.invariant turn.loop-test.true column.before.before.y_of.ensures column.before.index_of.ensures column.with.ensures
     (sym c.before.decides.ensures ∙ c.if1.true)
 
 sub-k : tie.Need-overflow-sub-k invariant-loop decreases-loop
@@ -52,10 +52,10 @@ loop-again : tie.Need-loop-preserved invariant-loop decreases-loop
 loop-again c =
     let column = c.before.before in
     let turn = column.before.before.before.before in
-    looked-more turn.before.loop.invariant turn.loop-test.true column.before.before.y_of.ensures column.before.index_of.ensures column.with.ensures
+    looked_more turn.before.loop.invariant turn.loop-test.true column.before.before.y_of.ensures column.before.index_of.ensures column.with.ensures
 
 returns-2 : tie.Need-returns-2 invariant-loop decreases-loop
-returns-2 c = looked-all c.before.loop.invariant c.loop-test.false
+returns-2 c = looked_all c.before.loop.invariant c.loop-test.false
 
 pub look-back-spec : {M : Type 1} → statement M
 look-back-spec =

@@ -3,12 +3,12 @@ use mathlib.Core.Path.{◌≡◌, ap, ◌∙◌}
 use Prim.Native.Nat.{◌-◌}
 use borrow.Author.Rules.{rules}
 use Rattle.strips.specs.Strips.{shared}
-use Rattle.strips.proofs.SettleLaws.{settled-none, settling-area, settling-volume, settling-enough, settling-gain, settled-some}
+use Rattle.strips.proofs.SettleLaws.{settled_none, settling_area, settling_volume, settling_enough, settling_gain, settled_some}
 use Rattle.strips.proofs.settle.Statement.{statement}
 use Rattle.strips.proofs.settle.Tie as tie
 
 returns : tie.Need-returns
-returns c = settled-none _ _ _ _ _ _ c.if1.true
+returns c = settled_none _ _ _ _ _ _ c.if1.true
 
 sub-width : tie.Need-overflow-sub-width
 sub-width c = search rules
@@ -31,13 +31,13 @@ slice-read-out : tie.Need-slice-read-out
 slice-read-out c = search rules
 
 mul-out-2 : tie.Need-overflow-mul-out-2
-mul-out-2 c = record { fits = settling-area c.before.before.before.before.before.requires (shared-is c.before) }
+mul-out-2 c = record { fits = settling_area c.before.before.before.before.before.requires (shared-is c.before) }
 
 mul-out-3 : tie.Need-overflow-mul-out-3
-mul-out-3 c = record { fits = settling-volume c.before.before.before.before.before.requires (shared-is c.before) }
+mul-out-3 c = record { fits = settling_volume c.before.before.before.before.before.requires (shared-is c.before) }
 
 sub_out : tie.Need-overflow-sub-out
-sub_out c = settling-enough c.before.before.before.before.before.requires (shared-is c.before)
+sub_out c = settling_enough c.before.before.before.before.before.requires (shared-is c.before)
 
 mul-out-4 : tie.Need-overflow-mul-out-4
 mul-out-4 c = search rules
@@ -51,7 +51,7 @@ less-requires-2 c κs = search rules
 mul-result : tie.Need-overflow-mul-result
 mul-result c =
     record {
-      fits = settling-gain c.before.before.before.before.before.before.requires (shared-is c.before.before) c.less2.ensures;
+      fits = settling_gain c.before.before.before.before.before.before.requires (shared-is c.before.before) c.less2.ensures;
     }
 
 same_length : tie.Need-same-length
@@ -59,7 +59,7 @@ same_length c = search rules
 
 returns-2 : tie.Need-returns-2
 returns-2 c =
-    settled-some c.before.before.before.before.before.before.requires (shared-is c.before.before) c.less2.ensures
+    settled_some c.before.before.before.before.before.before.requires (shared-is c.before.before) c.less2.ensures
 
 pub settle-spec : {M : Type 1} → statement M
 settle-spec =

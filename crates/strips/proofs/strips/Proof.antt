@@ -5,8 +5,8 @@ use mathlib.Core.Path.{◌≡◌, ap, ◌∙◌}
 use lib.ListN.{length, get_or}
 use borrow.Author.Count.{falls}
 use borrow.Author.Rules.{rules}
-use Rattle.line.specs.Line.{x-of}
-use Rattle.strips.proofs.StripsLaws.{Swept, swept_none, swept-more, swept-fits, swept-stop, turn-settling, turn-settled, end-settling, end-settled, end-crossed}
+use Rattle.line.specs.Line.{x_of}
+use Rattle.strips.proofs.StripsLaws.{Swept, swept_none, swept_more, swept_fits, swept_stop, turn_settling, turn_settled, end_settling, end_settled, end_crossed}
 use Rattle.strips.proofs.strips.Statement.{statement}
 use Rattle.strips.proofs.strips.Tie as tie
 
@@ -26,7 +26,7 @@ same_length : tie.Need-same-length invariant-loop decreases-loop
 same_length c = search rules
 
 returns : tie.Need-returns invariant-loop decreases-loop
-returns c = swept-stop c.before.before.before.loop.invariant c.if1.true
+returns c = swept_stop c.before.before.before.loop.invariant c.if1.true
 
 mul-entry : tie.Need-overflow-mul-entry invariant-loop decreases-loop
 mul-entry c = search rules
@@ -47,20 +47,20 @@ turn c = c.before.before.before.before.before
 abbrev start : tie.In-loop invariant-loop decreases-loop → tie.Start invariant-loop decreases-loop
 start c = c.before.before.before.before.before
 
-next-is : (c : tie.After-smaller2 invariant-loop decreases-loop) → c.smaller2.result ≡ min (x-of (get_or (start (turn c)).args.line.now (turn c).before.loop.k 0)) (start (turn c)).args.rx
-next-is c = c.smaller2.ensures ∙ ap (λ x. min x (start (turn c)).args.rx) c.before.x-of.ensures
+next-is : (c : tie.After-smaller2 invariant-loop decreases-loop) → c.smaller2.result ≡ min (x_of (get_or (start (turn c)).args.line.now (turn c).before.loop.k 0)) (start (turn c)).args.rx
+next-is c = c.smaller2.ensures ∙ ap (λ x. min x (start (turn c)).args.rx) c.before.x_of.ensures
 
 settle-requires : tie.Need-settle-requires invariant-loop decreases-loop
 settle-requires c κs =
     let here = turn c.before in
-    turn-settling (start here).pre here.before.loop.inv (next-is c.before)
+    turn_settling (start here).pre here.before.loop.inv (next-is c.before)
 
 add-area : tie.Need-overflow-add-area invariant-loop decreases-loop
 add-area c =
     let settled = c.before.before in
     let here = turn settled.before.before in
     record {
-      fits = swept-fits (start here).pre (turn-settled (start here).pre here.before.loop.inv (next-is settled.before.before) settled.settle.ensures);
+      fits = swept_fits (start here).pre (turn_settled (start here).pre here.before.loop.inv (next-is settled.before.before) settled.settle.ensures);
     }
 
 larger-requires : tie.Need-larger-requires invariant-loop decreases-loop
@@ -90,7 +90,7 @@ loop-again c =
     let moved = lowered.before in
     let settled = moved.before.before.before in
     let here = turn settled.before.before in
-    swept-more (start here).pre here.before.loop.inv (next-is settled.before.before) settled.settle.ensures
+    swept_more (start here).pre here.before.loop.inv (next-is settled.before.before) settled.settle.ensures
     moved.larger.ensures
     lowered.y_of.ensures
     indexed.index_of.ensures
@@ -100,7 +100,7 @@ loop-again c =
 settle-requires-2 : tie.Need-settle-requires-2 invariant-loop decreases-loop
 settle-requires-2 c κs =
     let start = c.before.before.before.before.before.before in
-    end-settling start.requires c.before.before.loop.invariant c.before.loop-test.false
+    end_settling start.requires c.before.before.loop.invariant c.before.loop-test.false
 
 add-result : tie.Need-overflow-add-result invariant-loop decreases-loop
 add-result c =
@@ -108,7 +108,7 @@ add-result c =
     let end = settled.before.before in
     let start = end.before.before.before.before.before in
     record {
-      fits = swept-fits start.requires (end-settled start.requires end.before.loop.invariant end.loop-test.false settled.settle2.ensures);
+      fits = swept_fits start.requires (end_settled start.requires end.before.loop.invariant end.loop-test.false settled.settle2.ensures);
     }
 
 same-length-2 : tie.Need-same-length-2 invariant-loop decreases-loop
@@ -119,7 +119,7 @@ returns-2 c =
     let settled = c.before.before in
     let end = settled.before.before in
     let start = end.before.before.before.before.before in
-    end-crossed start.requires end.before.loop.invariant end.loop-test.false settled.settle2.ensures
+    end_crossed start.requires end.before.loop.invariant end.loop-test.false settled.settle2.ensures
 
 pub strips-spec : {M : Type 1} → statement M
 strips-spec =

@@ -4,7 +4,7 @@ use lib.ListN.{length, get_or}
 use lib.Seq.{length-take-le}
 use mathlib.Core.Path.{refl, sym}
 use native.Mathlib.Omega.{arith}
-use Rattle.sweep.proofs.SweepLaws.{Progress, progress-none, progress-small, progress-index, progress-rising, progress-at, progress-flags, progress-crossing, progress-own, progress-fits, progress-entering, progress-more, progress-end}
+use Rattle.sweep.proofs.SweepLaws.{Progress, progress_none, progress_small, progress_index, progress_rising, progress_at, progress_flags, progress_crossing, progress_own, progress_fits, progress_entering, progress_more, progress_end}
 use borrow.Author.Rules.{rules}
 use Rattle.sweep.proofs.sweep.Statement.{statement}
 use Rattle.sweep.proofs.sweep.Tie as tie
@@ -31,7 +31,7 @@ element-copy-out-rz : tie.Need-element-copy-out-rz invariant-loop decreases-loop
 element-copy-out-rz c = search rules
 
 loop-holds : tie.Need-loop-init invariant-loop decreases-loop
-loop-holds c = progress-none c.before.before.before.before.before.requires (search rules)
+loop-holds c = progress_none c.before.before.before.before.before.requires (search rules)
 
 point-at-requires : tie.Need-point-at-requires invariant-loop decreases-loop
 point-at-requires c κs = search rules
@@ -70,22 +70,22 @@ ranked c = c.before.before
 rank-requires : tie.Need-rank-requires invariant-loop decreases-loop
 rank-requires c κs =
     let here = turn c.before in
-    (progress-rising here.before.before.loop.inv here.before.loop-test.taken here.point_at.ensures, progress-small here.before.before.loop.inv here.before.loop-test.taken here.point_at.ensures 0)
+    (progress_rising here.before.before.loop.inv here.before.loop-test.taken here.point_at.ensures, progress_small here.before.before.loop.inv here.before.loop-test.taken here.point_at.ensures 0)
 
 slice-reshare-prefix-look-back : tie.Need-slice-reshare-prefix-look-back invariant-loop decreases-loop
 slice-reshare-prefix-look-back c =
     let here = turn (ranked c) in
-    progress-at here.before.before.loop.inv here.before.loop-test.taken here.point_at.ensures c.rank.ensures
+    progress_at here.before.before.loop.inv here.before.loop-test.taken here.point_at.ensures c.rank.ensures
 
 slice-aggregate-look-back : tie.Need-slice-aggregate-look-back invariant-loop decreases-loop
 slice-aggregate-look-back c =
     let here = turn (ranked c.before) in
-    sym (length-take-le _ _ (progress-at here.before.before.loop.inv here.before.loop-test.taken here.point_at.ensures c.before.rank.ensures))
+    sym (length-take-le _ _ (progress_at here.before.before.loop.inv here.before.loop-test.taken here.point_at.ensures c.before.rank.ensures))
 
 look-back-requires : tie.Need-look-back-requires invariant-loop decreases-loop
 look-back-requires c κs =
     let here = turn (ranked c.before) in
-    progress-flags here.before.before.loop.inv here.before.loop-test.taken here.point_at.ensures c.before.rank.ensures
+    progress_flags here.before.before.loop.inv here.before.loop-test.taken here.point_at.ensures c.before.rank.ensures
 
 slice-reshare-prefix-strips : tie.Need-slice-reshare-prefix-strips invariant-loop decreases-loop
 slice-reshare-prefix-strips c = search rules
@@ -101,7 +101,7 @@ strips-requires c κs =
     let seen = c.before.before in
     let edge = ranked (place seen) in
     let here = turn edge in
-    progress-crossing here.before.before.loop.inv here.before.loop-test.taken here.point_at.ensures edge.edge.ensures (place seen).rank.ensures seen.look-back.ensures
+    progress_crossing here.before.before.loop.inv here.before.loop-test.taken here.point_at.ensures edge.edge.ensures (place seen).rank.ensures seen.look-back.ensures
 
 abbrev looked : tie.After-strips invariant-loop decreases-loop → tie.After-look-back invariant-loop decreases-loop
 looked c = c.before.before.before
@@ -111,7 +111,7 @@ mul-own c =
     let crossed = c.before.before in
     let edge = ranked (place (looked crossed)) in
     let here = turn edge in
-    record { fits = progress-own here.before.before.loop.inv here.before.loop-test.taken here.point_at.ensures edge.edge.ensures crossed.strips.ensures }
+    record { fits = progress_own here.before.before.loop.inv here.before.loop-test.taken here.point_at.ensures edge.edge.ensures crossed.strips.ensures }
 
 mul-out : tie.Need-overflow-mul-out invariant-loop decreases-loop
 mul-out c = search rules
@@ -124,18 +124,18 @@ add-volume c =
     let crossed = c.before.before in
     let edge = ranked (place (looked crossed)) in
     let here = turn edge in
-    record { fits = progress-fits here.before.before.loop.inv here.before.loop-test.taken here.point_at.ensures edge.edge.ensures crossed.strips.ensures }
+    record { fits = progress_fits here.before.before.loop.inv here.before.loop-test.taken here.point_at.ensures edge.edge.ensures crossed.strips.ensures }
 
 entry-requires : tie.Need-entry-requires invariant-loop decreases-loop
 entry-requires c κs =
     let here = turn (ranked (place (looked c.before.before.before))) in
-    (progress-small here.before.before.loop.inv here.before.loop-test.taken here.point_at.ensures 0, progress-small here.before.before.loop.inv here.before.loop-test.taken here.point_at.ensures 1, progress-index here.before.before.loop.inv here.before.loop-test.taken here.point_at.ensures)
+    (progress_small here.before.before.loop.inv here.before.loop-test.taken here.point_at.ensures 0, progress_small here.before.before.loop.inv here.before.loop-test.taken here.point_at.ensures 1, progress_index here.before.before.loop.inv here.before.loop-test.taken here.point_at.ensures)
 
 enter-requires : tie.Need-enter-requires invariant-loop decreases-loop
 enter-requires c κs =
     let place' = place (looked c.before.before.before.before) in
     let here = turn (ranked place') in
-    progress-entering here.before.before.loop.inv here.before.loop-test.taken here.point_at.ensures place'.rank.ensures c.entry.ensures
+    progress_entering here.before.before.loop.inv here.before.loop-test.taken here.point_at.ensures place'.rank.ensures c.entry.ensures
 
 add-i : tie.Need-overflow-add-i invariant-loop decreases-loop
 add-i c = search rules
@@ -151,7 +151,7 @@ loop-again c =
     let seen = looked crossed in
     let edge = ranked (place seen) in
     let here = turn edge in
-    progress-more here.before.before.loop.inv here.before.loop-test.taken here.point_at.ensures edge.edge.ensures crossed.strips.ensures refl
+    progress_more here.before.before.loop.inv here.before.loop-test.taken here.point_at.ensures edge.edge.ensures crossed.strips.ensures refl
     crossed.strips.auto.1.1.1.1.1.1.1.1.0
     entry.entry.ensures
     (entered.enter.ensures _ seen.look-back.ensures.state)
@@ -164,7 +164,7 @@ same-length-2 : tie.Need-same-length-2 invariant-loop decreases-loop
 same-length-2 c = search rules
 
 returns : tie.Need-returns invariant-loop decreases-loop
-returns c = progress-end _ (search rules) c.before.loop.invariant c.loop-test.false
+returns c = progress_end _ (search rules) c.before.loop.invariant c.loop-test.false
 
 pub sweep-spec : {M : Type 1} → statement M
 sweep-spec =

@@ -5,7 +5,7 @@ use native.Mathlib.Omega.{arith}
 use lib.ListN.{length, replicate}
 use lib.Seq.{length-take-le}
 use borrow.Author.Rules.{rules}
-use Rattle.sweep4.proofs.Finishing.{count-placeable, count-put}
+use Rattle.sweep4.proofs.Finishing.{count_placeable, count_put}
 use Rattle.sweep4.proofs.count.Statement.{statement}
 use Rattle.sweep4.proofs.count.Tie as tie
 
@@ -61,7 +61,7 @@ slice-aggregate-put-back-2 c =
 put-back-requires : tie.Need-put-back-requires
 put-back-requires c κs =
     let counted = c.before.before.before.before.before.before.before in
-    count-placeable _ counted.in_order.ensures (own_room counted) (whose-room counted) _ (start counted).requires.2
+    count_placeable _ counted.in_order.ensures (own_room counted) (whose-room counted) _ (start counted).requires.2
 
 same_length : tie.Need-same-length
 same_length c = search rules
@@ -69,7 +69,7 @@ same_length c = search rules
 returns : tie.Need-returns
 returns c =
     let counted = c.before.before.before.before.before.before.before.before.before.before in
-    c.before.before.put_back.ensures ∙ count-put _ counted.in_order.ensures (own_room counted) (whose-room counted) _ (start counted).requires.2
+    c.before.before.put_back.ensures ∙ count_put _ counted.in_order.ensures (own_room counted) (whose-room counted) _ (start counted).requires.2
 
 pub count_spec : {M : Type 1} → statement M
 count_spec =

@@ -1,9 +1,9 @@
 -- `in_order` meets its contract: the keys loaded and put in order, then the points in turn.
 use mathlib.Core.Path.{sym, ◌∙◌}
 use borrow.Author.Rules.{rules}
-use Rattle.order.proofs.Keys.{keyed-orderable}
-use Rattle.sweep4.proofs.Reading.{points-few}
-use Rattle.sweep4.proofs.Sweeping.{taking, sweeping-counted}
+use Rattle.order.proofs.Keys.{keyed_orderable}
+use Rattle.sweep4.proofs.Reading.{points_few}
+use Rattle.sweep4.proofs.Sweeping.{taking, sweeping_counted}
 use Rattle.sweep4.proofs.in_order.Statement.{statement}
 use Rattle.sweep4.proofs.in_order.Tie as tie
 
@@ -14,7 +14,7 @@ order-requires : tie.Need-order-requires
 order-requires c κs =
     let pre = c.before.before.before.before.before.before.before.before.before.before.before.requires in
     let loaded = c.before.before.before.before in
-    (keyed-orderable (points-few pre.0) loaded.load-keys.ensures, pre.2 ∙ sym (loaded.load-keys.auto.1.0 ∙ pre.1))
+    (keyed_orderable (points_few pre.0) loaded.load-keys.ensures, pre.2 ∙ sym (loaded.load-keys.auto.1.0 ∙ pre.1))
 
 pass-all-requires : tie.Need-pass-all-requires
 pass-all-requires c κs =
@@ -37,7 +37,7 @@ returns : tie.Need-returns
 returns c =
     let start = c.before.before.before.before.before.before.before.before.before.before.before.before.before.before.before.before.before.before.before.before.before.before.before.before in
     let pre = start.requires in
-    sweeping-counted start.args.reference.at start.args.rw (taking pre.0 c.before.before.before.before.before.before.before.before.before.before.before.before.before.before.before.before.before.load-keys.ensures c.before.before.before.before.before.before.before.before.before.before.before.before.order.ensures pre.3) c.before.before.before.before.pass_all.ensures
+    sweeping_counted start.args.reference.at start.args.rw (taking pre.0 c.before.before.before.before.before.before.before.before.before.before.before.before.before.before.before.before.before.load-keys.ensures c.before.before.before.before.before.before.before.before.before.before.before.before.order.ensures pre.3) c.before.before.before.before.pass_all.ensures
 
 pub in-order-spec : {M : Type 1} → statement M
 in-order-spec =

@@ -2,7 +2,7 @@
 use Prim.Native.Nat.{◌-◌, ◌+◌, ◌*◌, ◌/◌, ◌<◌}
 use native.Mathlib.Omega.{arith}
 use lib.ListN.{length}
-use Rattle.sweep4.proofs.Reading.{coordinate-small, Keying, keying-none, keying-more, keying-end}
+use Rattle.sweep4.proofs.Reading.{coordinate_small, Keying, keying_none, keying_more, keying_end}
 use Rattle.sweep4.proofs.load_keys.Statement.{statement}
 use Rattle.sweep4.proofs.load_keys.Tie as tie
 
@@ -13,7 +13,7 @@ abbrev decreases-loop : tie.decreases-loop
 decreases-loop coords keys₀ i₀ keys i = length keys₀ - i
 
 loop-holds : tie.Need-loop-init invariant-loop decreases-loop
-loop-holds c = keying-none _ _
+loop-holds c = keying_none _ _
 
 -- the turn is that of a point
 inside : (c : tie.In-loop invariant-loop decreases-loop) → c.before.loop.i < length c.before.before.args.coords.now / 4
@@ -35,16 +35,16 @@ shared-slice-read-keys : tie.Need-shared-slice-read-keys invariant-loop decrease
 shared-slice-read-keys c = omega (arith, inside c.before)
 
 cast-keys : tie.Need-overflow-cast-keys invariant-loop decreases-loop
-cast-keys c = omega (arith, coordinate-small c.before.before.before.requires.0 (4 * c.before.before.loop.i + 3))
+cast-keys c = omega (arith, coordinate_small c.before.before.before.requires.0 (4 * c.before.before.loop.i + 3))
 
 mul-keys-3 : tie.Need-overflow-mul-keys-3 invariant-loop decreases-loop
-mul-keys-3 c = omega (arith, coordinate-small c.before.before.before.requires.0 (4 * c.before.before.loop.i + 3))
+mul-keys-3 c = omega (arith, coordinate_small c.before.before.before.requires.0 (4 * c.before.before.loop.i + 3))
 
 cast-keys-2 : tie.Need-overflow-cast-keys-2 invariant-loop decreases-loop
 cast-keys-2 c = omega (arith, few c.before)
 
 add-keys-2 : tie.Need-overflow-add-keys-2 invariant-loop decreases-loop
-add-keys-2 c = omega (arith, few c.before, coordinate-small c.before.before.before.requires.0 (4 * c.before.before.loop.i + 3))
+add-keys-2 c = omega (arith, few c.before, coordinate_small c.before.before.before.requires.0 (4 * c.before.before.loop.i + 3))
 
 mul-keys-4 : tie.Need-overflow-mul-keys-4 invariant-loop decreases-loop
 mul-keys-4 c = omega (arith, few c.before)
@@ -59,13 +59,13 @@ loop-less : tie.Need-loop-smaller invariant-loop decreases-loop
 loop-less c = omega (arith, c.before.loop-test.true, c.before.before.loop.invariant.long)
 
 loop-again : tie.Need-loop-preserved invariant-loop decreases-loop
-loop-again c = keying-more c.before.before.loop.invariant c.before.loop-test.true
+loop-again c = keying_more c.before.before.loop.invariant c.before.loop-test.true
 
 same_length : tie.Need-same-length invariant-loop decreases-loop
 same_length c = c.before.loop.invariant.long
 
 returns : tie.Need-returns invariant-loop decreases-loop
-returns c = keying-end c.before.loop.invariant c.before.before.requires.1 c.loop-test.false
+returns c = keying_end c.before.loop.invariant c.before.before.requires.1 c.loop-test.false
 
 pub load-keys-spec : {M : Type 1} → statement M
 load-keys-spec =

@@ -4,7 +4,7 @@ use mathlib.Core.Path.{◌≡◌, refl, sym, ◌∙◌}
 use native.Mathlib.Omega.{arith}
 use lib.ListN.{length}
 use borrow.Author.Rules.{rules}
-use Rattle.sweep4.proofs.Sweeping.{Sweeping, sweeping-none, sweeping-few, sweeping-place, sweeping-recounting, sweeping-scratch, sweeping-fits, sweeping-more, sweeping-end}
+use Rattle.sweep4.proofs.Sweeping.{Sweeping, sweeping_none, sweeping_few, sweeping_place, sweeping_recounting, sweeping_scratch, sweeping_fits, sweeping_more, sweeping_end}
 use Rattle.sweep4.proofs.pass_all.Statement.{statement}
 use Rattle.sweep4.proofs.pass_all.Tie as tie
 
@@ -19,7 +19,7 @@ decreases-loop coords keys reference r₄ own₀ whose₀ points₀ corners₀ p
 loop-holds : tie.Need-loop-init invariant-loop decreases-loop
 loop-holds c =
     let pre = c.before.before.before.before.requires in
-    sweeping-none _ _ _ _ _ _ _ _ _ _ _ refl pre.1 pre.2 refl refl refl refl
+    sweeping_none _ _ _ _ _ _ _ _ _ _ _ refl pre.1 pre.2 refl refl refl refl
 
 -- what the call asks
 abbrev began : tie.At-loop invariant-loop decreases-loop → tie.Start invariant-loop decreases-loop
@@ -29,7 +29,7 @@ three : (c : tie.In-loop invariant-loop decreases-loop) → length (began c.befo
 three c = search rules
 
 few : (c : tie.In-loop invariant-loop decreases-loop) → c.before.loop.i < 512
-few c = sweeping-few (began c.before).pre.0 (three c) c.before.loop.invariant c.loop-test.true
+few c = sweeping_few (began c.before).pre.0 (three c) c.before.loop.invariant c.loop-test.true
 
 mul-place : tie.Need-overflow-mul-place invariant-loop decreases-loop
 mul-place c = omega (arith, few c)
@@ -44,37 +44,37 @@ read-point-requires : tie.Need-read-point-requires invariant-loop decreases-loop
 read-point-requires c κs =
     let turn = c.before in
     let pre = (began turn.before).pre in
-    (pre.0.readable, sweeping-place pre.0 (three turn) turn.before.loop.invariant turn.loop-test.true)
+    (pre.0.readable, sweeping_place pre.0 (three turn) turn.before.loop.invariant turn.loop-test.true)
 
 height-of-requires : tie.Need-height-of-requires invariant-loop decreases-loop
 height-of-requires c κs = c.before.before.loop-test.true
 
 slice-aggregate-pass : tie.Need-slice-aggregate-pass invariant-loop decreases-loop
-slice-aggregate-pass c = sym c.before.before.before.before.before.loop.invariant.points-long
+slice-aggregate-pass c = sym c.before.before.before.before.before.loop.invariant.points_long
 
 slice-aggregate-pass-2 : tie.Need-slice-aggregate-pass-2 invariant-loop decreases-loop
-slice-aggregate-pass-2 c = sym c.before.before.before.before.before.before.before.before.loop.invariant.corners-long
+slice-aggregate-pass-2 c = sym c.before.before.before.before.before.before.before.before.loop.invariant.corners_long
 
 slice-aggregate-pass-3 : tie.Need-slice-aggregate-pass-3 invariant-loop decreases-loop
-slice-aggregate-pass-3 c = sym c.before.before.before.before.before.before.before.before.before.loop.invariant.places-long
+slice-aggregate-pass-3 c = sym c.before.before.before.before.before.before.before.before.before.loop.invariant.places_long
 
 slice-aggregate-pass-4 : tie.Need-slice-aggregate-pass-4 invariant-loop decreases-loop
-slice-aggregate-pass-4 c = sym c.before.before.before.before.before.before.before.before.before.before.loop.invariant.line-long
+slice-aggregate-pass-4 c = sym c.before.before.before.before.before.before.before.before.before.before.loop.invariant.line_long
 
 slice-aggregate-pass-5 : tie.Need-slice-aggregate-pass-5 invariant-loop decreases-loop
-slice-aggregate-pass-5 c = sym c.before.before.before.before.before.before.before.before.before.before.before.loop.invariant.counts-long
+slice-aggregate-pass-5 c = sym c.before.before.before.before.before.before.before.before.before.before.before.loop.invariant.counts_long
 
 pass-requires : tie.Need-pass-requires invariant-loop decreases-loop
 pass-requires c κs =
     let turn = c.before.before.before.before.before.before.before.before.before.before in
     let inv = turn.before.loop.invariant in
     let pre = (began turn.before).pre in
-    (sweeping-recounting pre.0 (three turn) inv turn.loop-test.true c.before.before.before.before.before.before.before.before.read-point.ensures c.before.before.before.before.before.before.before.height-of.ensures, sweeping-scratch pre.0 (three turn) inv turn.loop-test.true, few turn, omega (arith, few turn, inv.points-long), omega (arith, few turn, inv.own-long), omega (arith, few turn, inv.whose-long))
+    (sweeping_recounting pre.0 (three turn) inv turn.loop-test.true c.before.before.before.before.before.before.before.before.read-point.ensures c.before.before.before.before.before.before.before.height-of.ensures, sweeping_scratch pre.0 (three turn) inv turn.loop-test.true, few turn, omega (arith, few turn, inv.points_long), omega (arith, few turn, inv.own_long), omega (arith, few turn, inv.whose_long))
 
 add_total : tie.Need-overflow-add-total invariant-loop decreases-loop
 add_total c =
     let turn = c.before.before.before.before.before.before.before.before.before.before.before.before.before.before.before.before.before.before.before.before in
-    record { fits = sweeping-fits (began turn.before).pre.0 (three turn) turn.before.loop.invariant turn.loop-test.true c.before.before.before.before.before.before.before.before.before.before.before.before.before.before.before.before.before.before.read-point.ensures c.before.before.before.before.before.before.before.before.before.before.before.before.before.before.before.before.before.height-of.ensures c.before.before.before.before.before.before.before.before.before.pass.ensures }
+    record { fits = sweeping_fits (began turn.before).pre.0 (three turn) turn.before.loop.invariant turn.loop-test.true c.before.before.before.before.before.before.before.before.before.before.before.before.before.before.before.before.before.before.read-point.ensures c.before.before.before.before.before.before.before.before.before.before.before.before.before.before.before.before.before.height-of.ensures c.before.before.before.before.before.before.before.before.before.pass.ensures }
 
 add-i : tie.Need-overflow-add-i invariant-loop decreases-loop
 add-i c = omega (arith, few c.before.before.before.before.before.before.before.before.before.before.before.before.before.before.before.before.before.before.before.before)
@@ -86,7 +86,7 @@ loop-again : tie.Need-loop-preserved invariant-loop decreases-loop
 loop-again c =
     let turn = c.before.before.before.before.before.before.before.before.before.before.before.before.before.before.before.before.before.before.before.before in
     let passed = c.before.before.before.before.before.before.before.before.before in
-    sweeping-more (began turn.before).pre.0 (three turn) turn.before.loop.invariant turn.loop-test.true c.before.before.before.before.before.before.before.before.before.before.before.before.before.before.before.before.before.before.read-point.ensures c.before.before.before.before.before.before.before.before.before.before.before.before.before.before.before.before.before.height-of.ensures passed.pass.ensures
+    sweeping_more (began turn.before).pre.0 (three turn) turn.before.loop.invariant turn.loop-test.true c.before.before.before.before.before.before.before.before.before.before.before.before.before.before.before.before.before.before.read-point.ensures c.before.before.before.before.before.before.before.before.before.before.before.before.before.before.before.before.before.height-of.ensures passed.pass.ensures
     passed.pass.auto.1.1.1.1.1.0
     passed.pass.auto.1.1.1.1.1.1.0
     passed.pass.auto.1.1.1.1.1.1.1.0
@@ -96,13 +96,13 @@ loop-again c =
     passed.pass.auto.1.1.1.1.1.1.1.1.1.1.1.0
 
 same_length : tie.Need-same-length invariant-loop decreases-loop
-same_length c = c.before.loop.invariant.own-long ∙ sym (began c.before).pre.1
+same_length c = c.before.loop.invariant.own_long ∙ sym (began c.before).pre.1
 
 same-length-2 : tie.Need-same-length-2 invariant-loop decreases-loop
-same-length-2 c = c.before.loop.invariant.whose-long ∙ sym (began c.before).pre.2
+same-length-2 c = c.before.loop.invariant.whose_long ∙ sym (began c.before).pre.2
 
 returns : tie.Need-returns invariant-loop decreases-loop
-returns c = sweeping-end (began c.before).pre.0 (search rules) c.before.loop.invariant c.loop-test.false
+returns c = sweeping_end (began c.before).pre.0 (search rules) c.before.loop.invariant c.loop-test.false
 
 pub pass-all-spec : {M : Type 1} → statement M
 pass-all-spec =

@@ -3,7 +3,7 @@ use Prim.Native.Nat.{◌+◌, ◌*◌}
 use mathlib.Core.Path.{◌∙◌}
 use native.Mathlib.Omega.{arith}
 use borrow.Author.Rules.{rules}
-use Rattle.sweep4.proofs.Reading.{coordinate-small, seen_at}
+use Rattle.sweep4.proofs.Reading.{coordinate_small, seen_at}
 use Rattle.sweep4.proofs.read_point.Statement.{statement}
 use Rattle.sweep4.proofs.read_point.Tie as tie
 
@@ -44,7 +44,7 @@ new-requires : tie.Need-new-requires
 new-requires c κs =
     let start = c.before.before.before.before in
     let at = start.args.place in
-    let small = coordinate-small start.requires.0 in
+    let small = coordinate_small start.requires.0 in
     (omega (arith, small (4 * at)), omega (arith, small (4 * at + 1)), omega (arith, small (4 * at + 2)))
 
 returns : tie.Need-returns

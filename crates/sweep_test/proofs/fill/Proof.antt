@@ -4,7 +4,7 @@ use native.Mathlib.Nat.{mod-le}
 use native.Mathlib.Omega.{arith}
 use lib.ListN.{length}
 use borrow.Author.Rules.{rules}
-use Rattle.sweep_test.proofs.Lists.{Filled, filled_none, filled_more, filled-end}
+use Rattle.sweep_test.proofs.Lists.{Filled, filled_none, filled_more, filled_end}
 use Rattle.sweep_test.proofs.fill.Statement.{statement}
 use Rattle.sweep_test.proofs.fill.Tie as tie
 
@@ -69,7 +69,7 @@ same_length : tie.Need-same-length invariant-loop decreases-loop
 same_length c = c.before.loop.invariant.alike
 
 returns : tie.Need-returns invariant-loop decreases-loop
-returns c = filled-end c.before.loop.invariant c.loop-test.false
+returns c = filled_end c.before.loop.invariant c.loop-test.false
 
 pub fill_spec : {M : Type 1} → statement M
 fill_spec =

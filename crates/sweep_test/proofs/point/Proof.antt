@@ -1,6 +1,6 @@
 -- `point` meets its contract.
 use native.Mathlib.Omega.{arith}
-use Rattle.sweep_test.proofs.Lists.{small-three}
+use Rattle.sweep_test.proofs.Lists.{small_three}
 use borrow.Author.Rules.{rules}
 use Rattle.sweep_test.proofs.point.Statement.{statement}
 use Rattle.sweep_test.proofs.point.Tie as tie
@@ -27,7 +27,7 @@ new-requires : tie.Need-new-requires
 new-requires c κs = search rules
 
 returns : tie.Need-returns
-returns c = small-three c.new.ensures (omega arith) (omega arith) (omega arith)
+returns c = small_three c.new.ensures (omega arith) (omega arith) (omega arith)
 
 pub point-spec : {M : Type 1} → statement M
 point-spec =

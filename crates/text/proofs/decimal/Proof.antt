@@ -3,8 +3,8 @@ use Prim.Native.Nat.{◌-◌}
 use mathlib.Core.Path.{sym, ◌∙◌}
 use native.Mathlib.Omega.{arith}
 use borrow.Author.Rules.{rules}
-use Rattle.text.proofs.Fields.{digit_low, digit-high}
-use Rattle.text.proofs.FieldAt.{Valued, valued-none, valued-small, valued-more, valued-stop, valued-end}
+use Rattle.text.proofs.Fields.{digit_low, digit_high}
+use Rattle.text.proofs.FieldAt.{Valued, valued_none, valued_small, valued_more, valued_stop, valued_end}
 use Rattle.text.proofs.decimal.Statement.{statement}
 use Rattle.text.proofs.decimal.Tie as tie
 
@@ -15,7 +15,7 @@ abbrev decreases-loop : tie.decreases-loop
 decreases-loop s at end v₀ i₀ v i = end - i
 
 loop-holds : tie.Need-loop-init invariant-loop decreases-loop
-loop-holds c = valued-none _ _ _ c.before.requires
+loop-holds c = valued_none _ _ _ c.before.requires
 
 shared-slice-read-b : tie.Need-shared-slice-read-b invariant-loop decreases-loop
 shared-slice-read-b c = omega arith
@@ -27,7 +27,7 @@ mul-v : tie.Need-overflow-mul-v invariant-loop decreases-loop
 mul-v c =
     omega (
       arith,
-      valued-small c.before.before.before.before.before.before.requires c.before.before.before.before.loop.invariant,
+      valued_small c.before.before.before.before.before.before.requires c.before.before.before.before.loop.invariant,
     )
 
 sub_wide : tie.Need-overflow-sub-wide invariant-loop decreases-loop
@@ -40,8 +40,8 @@ add-v : tie.Need-overflow-add-v invariant-loop decreases-loop
 add-v c =
     omega (
       arith,
-      valued-small c.before.before.before.before.before.before.before.requires c.before.before.before.before.before.loop.invariant,
-      digit-high _ (sym c.before.before.is_digit.ensures ∙ c.before.if1.true),
+      valued_small c.before.before.before.before.before.before.before.requires c.before.before.before.before.before.loop.invariant,
+      digit_high _ (sym c.before.before.is_digit.ensures ∙ c.before.if1.true),
       c.wide.ensures,
     )
 
@@ -53,19 +53,19 @@ loop-less c = omega arith
 
 loop-again : tie.Need-loop-preserved invariant-loop decreases-loop
 loop-again c =
-    valued-more c.before.before.before.before.before.before.before.requires c.before.before.before.before.before.loop.invariant
+    valued_more c.before.before.before.before.before.before.before.requires c.before.before.before.before.before.loop.invariant
     c.before.before.before.before.loop-test.true
     (sym c.before.before.is_digit.ensures ∙ c.before.if1.true)
     c.wide.ensures
 
 returns : tie.Need-returns invariant-loop decreases-loop
 returns c =
-    valued-stop c.before.before.before.before.before.before.requires c.before.before.before.before.loop.invariant
+    valued_stop c.before.before.before.before.before.before.requires c.before.before.before.before.loop.invariant
     c.before.before.before.loop-test.true
     (sym c.before.is_digit.ensures ∙ c.if1.false)
 
 returns-2 : tie.Need-returns-2 invariant-loop decreases-loop
-returns-2 c = valued-end c.before.before.before.requires c.before.loop.invariant c.loop-test.false
+returns-2 c = valued_end c.before.before.before.requires c.before.loop.invariant c.loop-test.false
 
 pub decimal-spec : {M : Type 1} → statement M
 decimal-spec =

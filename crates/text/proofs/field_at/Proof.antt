@@ -2,7 +2,7 @@
 use Prim.Native.Nat.{◌-◌}
 use mathlib.Core.Path.{◌∙◌}
 use native.Mathlib.Omega.{arith}
-use Rattle.text.proofs.FieldAt.{Skipped, skipped-none, skipped-part, skipped-more, skipped-stop, skipped-end}
+use Rattle.text.proofs.FieldAt.{Skipped, skipped_none, skipped_part, skipped_more, skipped_stop, skipped_end}
 use Rattle.text.proofs.field_at.Statement.{statement}
 use Rattle.text.proofs.field_at.Tie as tie
 
@@ -16,7 +16,7 @@ add-end : tie.Need-overflow-add-end invariant-loop decreases-loop
 add-end c = omega arith
 
 loop-holds : tie.Need-loop-init invariant-loop decreases-loop
-loop-holds c = skipped-none _ _ c.before.requires
+loop-holds c = skipped_none _ _ c.before.requires
 
 shared-slice-read-if1 : tie.Need-shared-slice-read-if1 invariant-loop decreases-loop
 shared-slice-read-if1 c = omega arith
@@ -29,22 +29,22 @@ loop-less c = omega arith
 
 loop-again : tie.Need-loop-preserved invariant-loop decreases-loop
 loop-again c =
-    skipped-more c.before.before.before.before.before.requires c.before.before.before.loop.invariant c.before.before.loop-test.true
+    skipped_more c.before.before.before.before.before.requires c.before.before.before.loop.invariant c.before.before.loop-test.true
     c.if1.true
 
 number-requires : tie.Need-number-requires invariant-loop decreases-loop
 number-requires c κs =
-    skipped-part c.before.before.before.before.before.requires c.before.before.before.loop.invariant c.before.before.loop-test.true
+    skipped_part c.before.before.before.before.before.requires c.before.before.before.loop.invariant c.before.before.loop-test.true
 
 returns : tie.Need-returns invariant-loop decreases-loop
 returns c =
     c.number.ensures
-    ∙ skipped-stop c.before.before.before.before.before.before.requires c.before.before.before.before.loop.invariant
+    ∙ skipped_stop c.before.before.before.before.before.before.requires c.before.before.before.before.loop.invariant
     c.before.before.before.loop-test.true
     c.before.if1.false
 
 returns-2 : tie.Need-returns-2 invariant-loop decreases-loop
-returns-2 c = skipped-end c.before.before.before.requires c.before.loop.invariant c.loop-test.false
+returns-2 c = skipped_end c.before.before.before.requires c.before.loop.invariant c.loop-test.false
 
 pub field-at-spec : {M : Type 1} → statement M
 field-at-spec =

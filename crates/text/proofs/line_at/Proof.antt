@@ -1,19 +1,19 @@
 -- `text::line_at` meets its contract: the tests of the length and of byte 10, then the four fields (proofs/Lines).
 use mathlib.Core.Path.{◌∙◌}
 use native.Mathlib.Omega.{arith}
-use Rattle.text.proofs.Lines.{line-short, line-unended, line-fields}
+use Rattle.text.proofs.Lines.{line_short, line_unended, line_fields}
 use borrow.Author.Rules.{rules}
 use Rattle.text.proofs.line_at.Statement.{statement}
 use Rattle.text.proofs.line_at.Tie as tie
 
 returns : tie.Need-returns
-returns c = line-short _ _ (omega arith)
+returns c = line_short _ _ (omega arith)
 
 sub-if2 : tie.Need-overflow-sub-if2
 sub-if2 c = search rules
 
 returns-2 : tie.Need-returns-2
-returns-2 c = line-short _ _ (omega arith)
+returns-2 c = line_short _ _ (omega arith)
 
 add-if3 : tie.Need-overflow-add-if3
 add-if3 c = search rules
@@ -22,7 +22,7 @@ shared-slice-read-if3 : tie.Need-shared-slice-read-if3
 shared-slice-read-if3 c = search rules
 
 returns-3 : tie.Need-returns-3
-returns-3 c = line-unended _ _ c.if3.true
+returns-3 c = line_unended _ _ c.if3.true
 
 field-at-requires : tie.Need-field-at-requires
 field-at-requires c κs = search rules
@@ -51,7 +51,7 @@ four-requires c κs = search rules
 returns-4 : tie.Need-returns-4
 returns-4 c =
     c.four.ensures
-    ∙ line-fields _ _ c.before.before.before.before.before.if3.false
+    ∙ line_fields _ _ c.before.before.before.before.before.if3.false
     c.before.before.before.before.field_at.ensures
     c.before.before.before.field-at2.ensures
     c.before.before.field-at3.ensures

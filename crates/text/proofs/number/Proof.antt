@@ -1,7 +1,7 @@
 -- `text::number` meets its contract, by the number of its bytes and the first of them (proofs/FieldAt).
 use mathlib.Core.Path.{◌∙◌}
 use borrow.Author.Rules.{rules}
-use Rattle.text.proofs.FieldAt.{number-one, number-zero, number_more}
+use Rattle.text.proofs.FieldAt.{number_one, number_zero, number_more}
 use Rattle.text.proofs.number.Statement.{statement}
 use Rattle.text.proofs.number.Tie as tie
 
@@ -12,13 +12,13 @@ decimal-requires : tie.Need-decimal-requires
 decimal-requires c κs = search rules
 
 returns : tie.Need-returns
-returns c = c.decimal.ensures ∙ number-one c.before.before.before.requires c.before.if1.true
+returns c = c.decimal.ensures ∙ number_one c.before.before.before.requires c.before.if1.true
 
 shared-slice-read-if2 : tie.Need-shared-slice-read-if2
 shared-slice-read-if2 c = search rules
 
 returns-2 : tie.Need-returns-2
-returns-2 c = number-zero c.before.before.before.before.requires c.before.before.if1.false c.if2.true
+returns-2 c = number_zero c.before.before.before.before.requires c.before.before.if1.false c.if2.true
 
 decimal-requires-2 : tie.Need-decimal-requires-2
 decimal-requires-2 c κs = search rules

@@ -3,7 +3,7 @@ use mathlib.Core.Path.{◌∙◌}
 use native.Mathlib.Omega.{arith}
 use lib.ListN.{length-set}
 use borrow.Author.Rules.{rules}
-use Rattle.text.proofs.PutNumber.{Writing, writing-none, writing-few, writing_more, writing-end}
+use Rattle.text.proofs.PutNumber.{Writing, writing_none, writing_few, writing_more, writing_end}
 use Rattle.text.proofs.put_number.Statement.{statement}
 use Rattle.text.proofs.put_number.Tie as tie
 
@@ -26,7 +26,7 @@ slice-write-out : tie.Need-slice-write-out invariant-loop decreases-loop
 slice-write-out c = omega arith
 
 loop-holds : tie.Need-loop-init invariant-loop decreases-loop
-loop-holds c = writing-none _ _ _ _ (simp length-set (omega arith))
+loop-holds c = writing_none _ _ _ _ (simp length-set (omega arith))
 
 sub-left-2 : tie.Need-overflow-sub-left-2 invariant-loop decreases-loop
 sub-left-2 c = omega arith
@@ -35,7 +35,7 @@ digit-or-space-requires : tie.Need-digit-or-space-requires invariant-loop decrea
 digit-or-space-requires c κs = search rules
 
 add-out-2 : tie.Need-overflow-add-out-2 invariant-loop decreases-loop
-add-out-2 c = omega (arith, writing-few c.before.before.loop.invariant)
+add-out-2 c = omega (arith, writing_few c.before.before.loop.invariant)
 
 slice-write-out-2 : tie.Need-slice-write-out-2 invariant-loop decreases-loop
 slice-write-out-2 c = omega arith
@@ -51,7 +51,7 @@ same_length c = c.before.loop.invariant.filled.long ∙ simp length-set
 
 returns : tie.Need-returns invariant-loop decreases-loop
 returns c =
-    writing-end _ c.before.before.before.before.requires c.before.before.last-digit.ensures c.before.loop.invariant
+    writing_end _ c.before.before.before.before.requires c.before.before.last-digit.ensures c.before.loop.invariant
     c.loop-test.false
 
 pub put-number-spec : {M : Type 1} → statement M

@@ -1,6 +1,6 @@
 -- `add_level` meets its contract.
 use mathlib.Core.Path.{sym, ◌∙◌}
-use Rattle.volume.proofs.Levels.{layer-yes, layer-no}
+use Rattle.volume.proofs.Levels.{layer_yes, layer_no}
 use borrow.Author.Rules.{rules}
 use Rattle.volume.proofs.add_level.Statement.{statement}
 use Rattle.volume.proofs.add_level.Tie as tie
@@ -15,10 +15,10 @@ add-layer-requires : tie.Need-add-layer-requires
 add-layer-requires c κs = search rules
 
 returns : tie.Need-returns
-returns c = c.add-layer.ensures ∙ sym (layer-yes _ _ _ _ c.before.if1.true)
+returns c = c.add-layer.ensures ∙ sym (layer_yes _ _ _ _ c.before.if1.true)
 
 returns-2 : tie.Need-returns-2
-returns-2 c = sym (layer-no _ _ _ _ c.if1.false)
+returns-2 c = sym (layer_no _ _ _ _ c.if1.false)
 
 pub add-level-spec : {M : Type 1} → statement M
 add-level-spec =

@@ -2,7 +2,7 @@
 use mathlib.Core.Path.{◌≡◌}
 use lib.ListN.{length}
 use Rattle.words.specs.Format.{within}
-use Rattle.volume.proofs.Reading.{allowed-is}
+use Rattle.volume.proofs.Reading.{allowed_is}
 use borrow.Author.Rules.{rules}
 use Rattle.volume.proofs.allowed.Statement.{statement}
 use Rattle.volume.proofs.allowed.Tie as tie
@@ -35,7 +35,7 @@ returns : tie.Need-returns
 returns c =
     let args = c.before.before.before.before.before.before.before.before.args in
     let long : length args.t1.at ≡ 3 = search rules in
-    cc (allowed-is (within args.low 1048576) args.t1.at long)
+    cc (allowed_is (within args.low 1048576) args.t1.at long)
 
 pub allowed-spec : {M : Type 1} → statement M
 allowed-spec =

@@ -5,8 +5,8 @@ use lib.ListN.{replicate}
 use lib.Seq.{length-take-le}
 use borrow.Author.Tests.{not-true, not-false}
 use Rattle.volume.specs.declared.Volume.TheVariants.{Cells}
-use Rattle.volume.specs.Volume.{figure-of}
-use Rattle.volume.proofs.Outcomes.{refused-points, measured-points, loaded-many, loaded-few, loaded-keyed}
+use Rattle.volume.specs.Volume.{figure_of}
+use Rattle.volume.proofs.Outcomes.{refused_points, measured_points, loaded_many, loaded_few, loaded_keyed}
 use borrow.Author.Rules.{rules}
 use Rattle.volume.proofs.figure.Statement.{statement}
 use Rattle.volume.proofs.figure.Tie as tie
@@ -21,7 +21,7 @@ read-requires : tie.Need-read-requires
 read-requires c κs = search rules
 
 returns : tie.Need-returns
-returns c = refused-points _ _ _ (sym c.before.before.before.read.ensures.0 ∙ not-true _ c.if1.true)
+returns c = refused_points _ _ _ (sym c.before.before.before.read.ensures.0 ∙ not-true _ c.if1.true)
 
 -- what `read` found
 abbrev own : tie.Else1 → tie.After-read
@@ -55,14 +55,14 @@ in-order-requires : tie.Need-in-order-requires
 in-order-requires c κs =
     let here = c.before.before.before in
     let loaded = (own here).read.ensures.1 (found here) in
-    (loaded-few loaded, loaded-keyed loaded, length-take-le _ (replicate 512 0) (start here).requires.0.few ∙ sym (loaded-many loaded), (start here).requires.1)
+    (loaded_few loaded, loaded_keyed loaded, length-take-le _ (replicate 512 0) (start here).requires.0.few ∙ sym (loaded_many loaded), (start here).requires.1)
 
 returns-2 : tie.Need-returns-2
 returns-2 c =
     let summed = c.before.before in
     let here = summed.before.before.before.before in
     let loaded = (own here).read.ensures.1 (found here) in
-    measured-points _ _ _ _ (sym (own here).read.ensures.0 ∙ found here) (ap Cells (summed.in_order.ensures ∙ ap (figure-of _) loaded.all))
+    measured_points _ _ _ _ (sym (own here).read.ensures.0 ∙ found here) (ap Cells (summed.in_order.ensures ∙ ap (figure_of _) loaded.all))
 
 pub figure-spec : {M : Type 1} → statement M
 figure-spec =

@@ -1,6 +1,6 @@
 -- `in_order` meets its contract: the keys put in order, then the layers.
 use mathlib.Core.Path.{sym, ◌∙◌}
-use Rattle.order.proofs.Keys.{keyed-orderable}
+use Rattle.order.proofs.Keys.{keyed_orderable}
 use borrow.Author.Rules.{rules}
 use Rattle.volume.proofs.in_order.Statement.{statement}
 use Rattle.volume.proofs.in_order.Tie as tie
@@ -8,7 +8,7 @@ use Rattle.volume.proofs.in_order.Tie as tie
 order-requires : tie.Need-order-requires
 order-requires c κs =
     let pre = c.before.before.before.before.requires in
-    (keyed-orderable pre.0 pre.1, pre.2 ∙ sym pre.1.long)
+    (keyed_orderable pre.0 pre.1, pre.2 ∙ sym pre.1.long)
 
 slice-aggregate-sum-layers : tie.Need-slice-aggregate-sum-layers
 slice-aggregate-sum-layers c = search rules

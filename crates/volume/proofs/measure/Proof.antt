@@ -3,16 +3,16 @@ use mathlib.Core.Path.{◌≡◌, sym, ◌∙◌}
 use mathlib.Core.Bool.{true}
 use borrow.Author.Tests.{not-true, not-false}
 use Rattle.words.specs.Format.{within, each}
-use Rattle.volume.proofs.Outcomes.{row-17, row-20, row-19, readable, measured, corner-small}
+use Rattle.volume.proofs.Outcomes.{row_17, row_20, row_19, readable, measured, corner_small}
 use borrow.Author.Rules.{rules}
 use Rattle.volume.proofs.measure.Statement.{statement}
 use Rattle.volume.proofs.measure.Tie as tie
 
 returns : tie.Need-returns
-returns c = row-17 _ _ c.if1.true
+returns c = row_17 _ _ c.if1.true
 
 returns-2 : tie.Need-returns-2
-returns-2 c = row-20 _ _ c.before.if1.false c.if2.true
+returns-2 c = row_20 _ _ c.before.if1.false c.if2.true
 
 read-three-requires : tie.Need-read-three-requires
 read-three-requires c κs = search rules
@@ -22,7 +22,7 @@ allowed-requires c κs = search rules
 
 returns-3 : tie.Need-returns-3
 returns-3 c =
-    row-19 _ _ c.before.before.before.before.if1.false c.before.before.before.if2.false c.before.before.read-three.ensures (sym c.before.allowed.ensures ∙ not-true _ c.if3.true)
+    row_19 _ _ c.before.before.before.before.if1.false c.before.before.before.if2.false c.before.before.read-three.ensures (sym c.before.allowed.ensures ∙ not-true _ c.if3.true)
 
 -- the reference is allowed
 judged : (c : tie.Else3) → each (within 1 1048576) c.before.before.read-three.result.at ≡ true
@@ -30,7 +30,7 @@ judged c = sym c.before.allowed.ensures ∙ not-false _ c.if3.false
 
 figure-requires : tie.Need-figure-requires
 figure-requires c κs =
-    (readable c.before.before.before.before.before.before.args.reference _ c.before.before.before.before.if1.false c.before.before.before.if2.false, corner-small _ (judged c))
+    (readable c.before.before.before.before.before.before.args.reference _ c.before.before.before.before.if1.false c.before.before.before.if2.false, corner_small _ (judged c))
 
 returns-4 : tie.Need-returns-4
 returns-4 c =

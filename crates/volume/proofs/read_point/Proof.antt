@@ -1,7 +1,7 @@
 -- `read_point` meets its contract.
 use mathlib.Core.Path.{sym, ◌∙◌}
 use Rattle.volume.specs.Volume.{corner}
-use Rattle.volume.proofs.Reading.{points-at}
+use Rattle.volume.proofs.Reading.{points_at}
 use borrow.Author.Rules.{rules}
 use Rattle.volume.proofs.read_point.Statement.{statement}
 use Rattle.volume.proofs.read_point.Tie as tie
@@ -46,7 +46,7 @@ returns : tie.Need-returns
 unfolding corner
 returns c =
     let at-start = c.before.before.before.before.before in
-    c.read-three.ensures ∙ sym (points-at at-start.args.ds.now at-start.args.i _ at-start.requires)
+    c.read-three.ensures ∙ sym (points_at at-start.args.ds.now at-start.args.i _ at-start.requires)
 
 pub read-point-spec : {M : Type 1} → statement M
 read-point-spec =

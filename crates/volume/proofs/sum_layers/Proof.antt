@@ -4,7 +4,7 @@ use mathlib.Core.Path.{◌∙◌}
 use native.Mathlib.Omega.{arith}
 use lib.ListN.{length}
 use lib.Ieee.{of_bits}
-use Rattle.volume.proofs.Levels.{Layering, layering-none, layering-index, layering-low, layering-place, layering-growing, layering-fits, next-most, layering-more, layering-end, figure-is}
+use Rattle.volume.proofs.Levels.{Layering, layering_none, layering_index, layering_low, layering_place, layering_growing, layering_fits, next_most, layering_more, layering_end, figure_is}
 use borrow.Author.Rules.{rules}
 use Rattle.volume.proofs.sum_layers.Statement.{statement}
 use Rattle.volume.proofs.sum_layers.Tie as tie
@@ -37,14 +37,14 @@ loop-holds : tie.Need-loop-init invariant-loop decreases-loop
 unfolding of_bits
 loop-holds c =
     let pre = c.before.before.before.before.before.before.requires in
-    layering-none pre.0 _ _ _ _ _ pre.2 c.level-at.ensures
+    layering_none pre.0 _ _ _ _ _ pre.2 c.level_at.ensures
 
 -- what the call asks, and the turn that an answer is of
 abbrev start : tie.At-loop invariant-loop decreases-loop → tie.Start invariant-loop decreases-loop
 start c = c.before.before.before.before.before.before.before
 
 low : (c : tie.In-loop invariant-loop decreases-loop) → c.before.loop.i < 512
-low c = layering-low (start c.before).pre.0 _ _ _ c.before.loop.invariant c.loop-test.true
+low c = layering_low (start c.before).pre.0 _ _ _ c.before.loop.invariant c.loop-test.true
 
 mul-point-at : tie.Need-overflow-mul-point-at invariant-loop decreases-loop
 mul-point-at c = omega (arith, low c)
@@ -52,7 +52,7 @@ mul-point-at c = omega (arith, low c)
 shared-slice-read-point-at : tie.Need-shared-slice-read-point-at invariant-loop decreases-loop
 shared-slice-read-point-at c =
     let here = c.before in
-    layering-index (start here.before).pre.0 _ _ _ here.before.loop.invariant here.loop-test.true
+    layering_index (start here.before).pre.0 _ _ _ here.before.loop.invariant here.loop-test.true
 
 cast-point-at : tie.Need-overflow-cast-point-at invariant-loop decreases-loop
 cast-point-at c = search rules
@@ -60,7 +60,7 @@ cast-point-at c = search rules
 point-at-requires : tie.Need-point-at-requires invariant-loop decreases-loop
 point-at-requires c κs =
     let here = c.before in
-    layering-place (start here.before).pre.0 _ _ _ here.before.loop.invariant here.loop-test.true
+    layering_place (start here.before).pre.0 _ _ _ here.before.loop.invariant here.loop-test.true
 
 abbrev turn : tie.After-point-at invariant-loop decreases-loop → tie.In-loop invariant-loop decreases-loop
 turn c = c.before.before
@@ -69,7 +69,7 @@ grow-requires : tie.Need-grow-requires invariant-loop decreases-loop
 grow-requires c κs =
     let here = turn c.before in
     let pre = (start here.before).pre in
-    layering-growing pre.0 _ _ _ here.before.loop.inv here.loop-test.taken c.before.point_at.ensures (pre.1 0) (pre.1 1)
+    layering_growing pre.0 _ _ _ here.before.loop.inv here.loop-test.taken c.before.point_at.ensures (pre.1 0) (pre.1 1)
 
 -- the area then
 fits : (c : tie.After-struct-known invariant-loop decreases-loop) → (turn c.before.before.before.before.before).before.loop.area + c.before.before.before.grow.result.gain ≤ 2 ^ 53
@@ -77,7 +77,7 @@ fits c =
     let grown = c.before.before.before in
     let here = turn grown.before.before in
     let pre = (start here.before).pre in
-    layering-fits pre.0 _ _ _ here.before.loop.inv here.loop-test.taken grown.before.before.point_at.ensures (pre.1 0) (pre.1 1) (grown.grow.ensures _ here.before.loop.inv.lined)
+    layering_fits pre.0 _ _ _ here.before.loop.inv here.loop-test.taken grown.before.before.point_at.ensures (pre.1 0) (pre.1 1) (grown.grow.ensures _ here.before.loop.inv.lined)
 
 add-area : tie.Need-overflow-add-area invariant-loop decreases-loop
 add-area c = omega (arith, fits c)
@@ -93,26 +93,26 @@ add-level-requires c κs =
     let grown = c.before.before.before.before in
     let here = turn grown.before.before in
     let pre = (start here.before).pre in
-    (fits c.before, omega (arith, pre.1 2, next-most pre.0 _ _ _ here.before.loop.inv here.loop-test.taken grown.before.before.point_at.ensures (pre.1 0) (pre.1 1) (grown.grow.ensures _ here.before.loop.inv.lined) c.level-at2.ensures))
+    (fits c.before, omega (arith, pre.1 2, next_most pre.0 _ _ _ here.before.loop.inv here.loop-test.taken grown.before.before.point_at.ensures (pre.1 0) (pre.1 1) (grown.grow.ensures _ here.before.loop.inv.lined) c.level-at2.ensures))
 
 loop-less : tie.Need-loop-smaller invariant-loop decreases-loop
 loop-less c =
     let here = turn c.before.before.before.before.before.before.before in
-    omega (arith, layering-index (start here.before).pre.0 _ _ _ here.before.loop.inv here.loop-test.taken)
+    omega (arith, layering_index (start here.before).pre.0 _ _ _ here.before.loop.inv here.loop-test.taken)
 
 loop-again : tie.Need-loop-preserved invariant-loop decreases-loop
 loop-again c =
     let grown = c.before.before.before.before.before in
     let here = turn grown.before.before in
     let pre = (start here.before).pre in
-    layering-more pre.0 _ _ _ here.before.loop.inv here.loop-test.taken grown.before.before.point_at.ensures (pre.1 0) (pre.1 1) (grown.grow.ensures _ here.before.loop.inv.lined) c.before.level-at2.ensures grown.grow.auto.0 c.add-level.ensures
+    layering_more pre.0 _ _ _ here.before.loop.inv here.loop-test.taken grown.before.before.point_at.ensures (pre.1 0) (pre.1 1) (grown.grow.ensures _ here.before.loop.inv.lined) c.before.level-at2.ensures grown.grow.auto.0 c.add-level.ensures
 
 same_length : tie.Need-same-length invariant-loop decreases-loop
 same_length c = search rules
 
 returns : tie.Need-returns invariant-loop decreases-loop
 returns c =
-    layering-end (start c.before).pre.0 _ _ _ c.before.loop.invariant c.loop-test.false ∙ figure-is _ _ (search rules)
+    layering_end (start c.before).pre.0 _ _ _ c.before.loop.invariant c.loop-test.false ∙ figure_is _ _ (search rules)
 
 pub sum-layers-spec : {M : Type 1} → statement M
 sum-layers-spec =

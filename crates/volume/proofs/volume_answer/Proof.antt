@@ -1,7 +1,7 @@
 -- `volume_answer` meets its contract.
 use mathlib.Core.Path.{ap, ◌∙◌}
 use borrow.Author.Rules.{rules}
-use Rattle.volume.specs.Volume.{answer-of}
+use Rattle.volume.specs.Volume.{answer_of}
 use Rattle.volume.proofs.volume_answer.Statement.{statement}
 use Rattle.volume.proofs.volume_answer.Tie as tie
 
@@ -12,7 +12,7 @@ answer-requires : tie.Need-answer-requires
 answer-requires c κs = search rules
 
 returns : tie.Need-returns
-returns c = c.answer.ensures ∙ ap answer-of c.before.measure.ensures
+returns c = c.answer.ensures ∙ ap answer_of c.before.measure.ensures
 
 pub volume-answer-spec : {M : Type 1} → statement M
 volume-answer-spec = tie.close (tie.spec measure-requires answer-requires returns)

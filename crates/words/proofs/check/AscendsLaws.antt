@@ -33,9 +33,9 @@ module _ {n : ℕ} {a b : List ℕ} {i : ℕ} (h : Level n a b i) where
   unfolding either
   level-less l m = sym (step l ∙ rw (lt-ltb (get_or a i 0) (get_or b i 0) m))
 
-  pub level-more : i < n → get_or b i 0 < get_or a i 0 → false ≡ ascends a b
+  pub level_more : i < n → get_or b i 0 < get_or a i 0 → false ≡ ascends a b
   unfolding either both
-  level-more l m =
+  level_more l m =
       sym (step l ∙ rw (le-ltb (get_or a i 0) (get_or b i 0) (omega arith), ne_eqb (get_or a i 0) (get_or b i 0) (λ e. omega arith)))
 
   pub level-same : i < n → get_or b i 0 ≤ get_or a i 0 → get_or a i 0 ≤ get_or b i 0 → Level n a b (i + 1)

@@ -7,10 +7,10 @@ use lib.Dec.{leb, ltb}
 use borrow.Author.Tests.{lt-ltb, le-ltb, not-true, not-false}
 use Rattle.slices.specs.Choices.{both}
 use Rattle.hypervolume.proofs.Tests.{Compared, below, above, compared}
-use Rattle.slices.proofs.Choices.{both-assoc}
+use Rattle.slices.proofs.Choices.{both_assoc}
 use Rattle.words.specs.Archive.{Row, Shape}
-use Rattle.words.specs.Format.{row-allowed}
-use Rattle.words.specs.Layout.{read-shape}
+use Rattle.words.specs.Format.{row_allowed}
+use Rattle.words.specs.Layout.{read_shape}
 use Rattle.words.specs.Places.{row_at, follows, repeated, stands, Found}
 
 -- The first of two tests decides, or leaves it to the second.
@@ -22,13 +22,13 @@ pub first-passed : (b q s : Bool) → both b q ≡ s → not b ≡ false → q �
 unfolding both
 first-passed b q s e n = rw (not-false b n) at e
 
-pub stands-test : (w : List ℕ) (i : ℕ) (s : Shape) (r : Row) (a f b : Bool) → s ≡ read-shape w → r ≡ row_at w i
-    → a ≡ row-allowed s r → f ≡ follows w i → b ≡ both a f
+pub stands-test : (w : List ℕ) (i : ℕ) (s : Shape) (r : Row) (a f b : Bool) → s ≡ read_shape w → r ≡ row_at w i
+    → a ≡ row_allowed s r → f ≡ follows w i → b ≡ both a f
     → both b (not (repeated w i)) ≡ stands w i
 unfolding stands
 stands-test w i s r a f b shape row allowed order test =
     rw (test, allowed, order, shape, row)
-    (both-assoc (row-allowed (read-shape w) (row_at w i)) (follows w i) (not (repeated w i)))
+    (both_assoc (row_allowed (read_shape w) (row_at w i)) (follows w i) (not (repeated w i)))
 
 pub stands-unmet : (b h s : Bool) → both b (not h) ≡ s → not b ≡ false → h ≡ false → true ≡ s
 stands-unmet b h s e n clear = ap not (sym clear) ∙ first-passed b (not h) s e n

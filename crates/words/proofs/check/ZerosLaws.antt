@@ -13,7 +13,7 @@ use lib.Seq.{slice, slice-cons, slice_empty}
 use borrow.Author.Tests.{eq-eqb, ne_eqb}
 use Rattle.slices.specs.Choices.{both}
 use Rattle.hypervolume.proofs.Tests.{Equated, same, differs, equated}
-use Rattle.slices.proofs.Choices.{both-comm, both-assoc}
+use Rattle.slices.proofs.Choices.{both_comm, both_assoc}
 use Rattle.words.specs.Format.{each, zeros}
 use Rattle.words.specs.Layout.{word}
 
@@ -48,7 +48,7 @@ blended-more w from to any i g l =
       inside = g.inside;
       left =
           rw (add-one i, or-zero any (word w i))
-          (both-assoc (eqb any 0) (eqb (word w i) 0) (zeros (slice (suc i) to w))
+          (both_assoc (eqb any 0) (eqb (word w i) 0) (zeros (slice (suc i) to w))
           ∙ ap (λ ws. both (eqb any 0) (zeros ws)) (sym (slice-cons i to w 0 l g.inside))
           ∙ g.left);
     }
@@ -57,4 +57,4 @@ pub blended-end : (w : List ℕ) (from to any i : ℕ) → Blended w from to any
 unfolding zeros each both
 blended-end w from to any i g l =
     let end : i ≡ to = omega arith in
-    both-comm true (eqb any 0) ∙ ap (λ ws. both (eqb any 0) (zeros ws)) (sym (slice_empty to w)) ∙ (rw end at g.left)
+    both_comm true (eqb any 0) ∙ ap (λ ws. both (eqb any 0) (zeros ws)) (sym (slice_empty to w)) ∙ (rw end at g.left)

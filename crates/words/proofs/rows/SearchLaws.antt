@@ -10,9 +10,9 @@ use Rattle.words.specs.Archive.{Row, trials}
 use Rattle.words.specs.Format.{held}
 use Rattle.words.specs.Layout.{word}
 use Rattle.words.specs.Places.{row_at, rows_before, Found}
-use Rattle.words.proofs.Held.{held_at, held-nowhere}
-use Rattle.words.proofs.Places.{row-at-number, rows-before-at}
-use Rattle.words.proofs.Reading.{length-read-rows}
+use Rattle.words.proofs.Held.{held_at, held_nowhere}
+use Rattle.words.proofs.Places.{row_at_number, rows_before_at}
+use Rattle.words.proofs.Reading.{length_read_rows}
 
 -- A search: no record before place i has the number.
 pub record Unfound (w : List ℕ) (n number i : ℕ) : Type 0 where
@@ -24,15 +24,15 @@ search-none w n number = record { inside = omega arith; none = λ k l. absurd (l
 
 pub search-more : (w : List ℕ) (n number i : ℕ) → Unfound w n number i → i < n → (word w (8 + 5 * i) ≡ number → ⊥) → Unfound w n number (i + 1)
 search-more w n number i u l other =
-    record { inside = omega arith; none = below_more _ i u.none (λ e. other (sym (row-at-number w i) ∙ e)) }
+    record { inside = omega arith; none = below_more _ i u.none (λ e. other (sym (row_at_number w i) ∙ e)) }
 
 pub search-stop : (w : List ℕ) (n number i : ℕ) → Unfound w n number i → i < n → word w (8 + 5 * i) ≡ number → Found w n number i
 search-stop w n number i u l e =
     let rows : List Row = rows_before w n in
-    let there : (row_at w i).trial.number ≡ number = row-at-number w i ∙ e in
-    let inside : i < length rows = omega (arith, length-read-rows n (drop 8 w)) in
+    let there : (row_at w i).trial.number ≡ number = row_at_number w i ∙ e in
+    let inside : i < length rows = omega (arith, length_read_rows n (drop 8 w)) in
     let same : (get_or rows i (row_at w i)).trial.number ≡ number =
-    ap (λ r. r.trial.number) (rows-before-at w n i (row_at w i) l) ∙ there in
+    ap (λ r. r.trial.number) (rows_before_at w n i (row_at w i) l) ∙ there in
     record {
       inside = omega arith;
       holds = ap (λ m. held m (trials rows)) (sym same) ∙ held_at rows i (row_at w i) inside ∙ sym (lt-ltb i n l);
@@ -45,7 +45,7 @@ search-end w n number i u l =
     let rows : List Row = rows_before w n in
     record {
       inside = u.inside;
-      holds = held-nowhere number rows (row_at w i) (λ k k<n. absent k (omega (arith, length-read-rows n (drop 8 w)))) ∙ sym (le-ltb i n l);
+      holds = held_nowhere number rows (row_at w i) (λ k k<n. absent k (omega (arith, length_read_rows n (drop 8 w)))) ∙ sym (le-ltb i n l);
       there = λ i<n. absurd (let no : ⊥ = omega arith in no);
       first = u.none;
     }
@@ -53,4 +53,4 @@ search-end w n number i u l =
     absent : (k : ℕ) → k < n → (get_or (rows_before w n) k (row_at w i)).trial.number ≡ number → ⊥
     absent k k<n e =
         u.none k (omega arith)
-        (ap (λ r. r.trial.number) (sym (rows-before-at w n k (row_at w i) k<n)) ∙ e)
+        (ap (λ r. r.trial.number) (sym (rows_before_at w n k (row_at w i) k<n)) ∙ e)

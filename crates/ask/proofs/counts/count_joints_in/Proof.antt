@@ -2,13 +2,13 @@
 use mathlib.Core.Path.{sym}
 use native.Mathlib.Omega.{arith}
 use lib.Seq.{length-take-le}
-use Rattle.ask.proofs.LoadedPoints.{loaded, loaded-updating, joints-counted}
+use Rattle.ask.proofs.LoadedPoints.{loaded, loaded_updating, joints_counted}
 use borrow.Author.Rules.{rules}
 use Rattle.ask.proofs.counts.count_joints_in.Statement.{statement}
 use Rattle.ask.proofs.counts.count_joints_in.Tie as tie
 
 load-points-requires : tie.Need-load-points-requires
-load-points-requires c κs = (c.before.before.before.before.before.requires.0, c.before.before.before.before.before.requires.1, c.before.before.before.before.before.requires.3.points-long)
+load-points-requires c κs = (c.before.before.before.before.before.requires.0, c.before.before.before.before.before.requires.1, c.before.before.before.before.before.requires.3.points_long)
 
 slice-reshare-prefix-update : tie.Need-slice-reshare-prefix-update
 slice-reshare-prefix-update c = search rules
@@ -23,7 +23,7 @@ update-requires : tie.Need-update-requires
 update-requires c κs =
     let start = c.before.before.before.before.before.before.before.before.before.before.before.before.before in
     let room = start.requires.3 in
-    loaded-updating (loaded start.requires.0 c.before.before.before.before.before.before.before.load-points.ensures c.before.before.before.before.reference-of.ensures) start.requires.2 room.corners-long room.places-long room.line-long room.counts-long
+    loaded_updating (loaded start.requires.0 c.before.before.before.before.before.before.before.load-points.ensures c.before.before.before.before.reference_of.ensures) start.requires.2 room.corners_long room.places_long room.line_long room.counts_long
 
 same_length : tie.Need-same-length
 same_length c = search rules
@@ -44,7 +44,7 @@ returns : tie.Need-returns
 returns c =
     let updated = c.before.before.before.before.before.before.before in
     let start = updated.before.before.before.before.before.before.before.before.before.before.before.before.before.before in
-    joints-counted (loaded start.requires.0 updated.before.before.before.before.before.before.before.before.load-points.ensures updated.before.before.before.before.before.reference-of.ensures) updated.update.ensures.0 updated.update.ensures.1
+    joints_counted (loaded start.requires.0 updated.before.before.before.before.before.before.before.before.load-points.ensures updated.before.before.before.before.before.reference_of.ensures) updated.update.ensures.0 updated.update.ensures.1
 
 pub count-joints-in-spec : {M : Type 1} → statement M
 count-joints-in-spec =

@@ -3,7 +3,7 @@ use mathlib.Core.Path.{refl, sym}
 use native.Mathlib.Omega.{arith}
 use lib.Seq.{length-take-le}
 use Rattle.calls.proofs.Known.{known}
-use Rattle.records.proofs.HeldPoints.{loaded-all}
+use Rattle.records.proofs.HeldPoints.{loaded_all}
 use borrow.Author.Rules.{rules}
 use Rattle.ask.proofs.questions.audited.Statement.{statement}
 use Rattle.ask.proofs.questions.audited.Tie as tie
@@ -24,7 +24,7 @@ slice-aggregate-counts-agree : tie.Need-slice-aggregate-counts-agree
 slice-aggregate-counts-agree c = sym (length-take-le _ _ (omega (arith, c.before.before.load-points.ensures.few)))
 
 counts-agree-requires : tie.Need-counts-agree-requires
-counts-agree-requires c κs = (c.before.before.before.before.before.before.requires, loaded-all refl c.before.before.load-points.ensures)
+counts-agree-requires c κs = (c.before.before.before.before.before.before.requires, loaded_all refl c.before.before.load-points.ensures)
 
 returns : tie.Need-returns
 returns c = search rules

@@ -7,7 +7,7 @@ use Rattle.hypervolume.specs.Front.{front}
 use Rattle.front.specs.Keys.{InOrder}
 use Rattle.words.specs.Layout.{read}
 use Rattle.calls.proofs.Known.{known}
-use Rattle.records.proofs.HeldPoints.{sound-in-order}
+use Rattle.records.proofs.HeldPoints.{sound_in_order}
 use Rattle.ask.proofs.questions.Audits.{many-points, counts-front, total-differs, front-differs, all-equal}
 use borrow.Author.Rules.{rules}
 use Rattle.ask.proofs.questions.counts_agree.Statement.{statement}
@@ -29,7 +29,7 @@ shared-slice-read-if2 : tie.Need-shared-slice-read-if2
 shared-slice-read-if2 c = omega (arith, known c.before.before.before.before.before.before.before.args.w.now c.before.before.before.before.before.before.before.requires.0)
 
 front-requires : tie.Need-front-requires
-front-requires c κs = subst InOrder (sym c.before.before.before.before.before.before.before.requires.1) (sound-in-order (read c.before.before.before.before.before.before.before.args.w.now) (known c.before.before.before.before.before.before.before.args.w.now c.before.before.before.before.before.before.before.requires.0).sound)
+front-requires c κs = subst InOrder (sym c.before.before.before.before.before.before.before.requires.1) (sound_in_order (read c.before.before.before.before.before.before.before.args.w.now) (known c.before.before.before.before.before.before.before.args.w.now c.before.before.before.before.before.before.before.requires.0).sound)
 
 returns-2 : tie.Need-returns-2
 returns-2 c = front-differs c.before.before.before.before.before.before.before.before.before.args.w.now _ _ c.before.before.before.before.before.before.count-all.ensures.whole c.before.before.before.if1.false (c.before.front.ensures ∙ ap front c.before.before.before.before.before.before.before.before.before.requires.1) c.if2.true

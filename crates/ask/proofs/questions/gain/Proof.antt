@@ -1,7 +1,7 @@
 -- `gain` meets its contract: rows 1 to 3 refuse, or the inner function answers.
 use mathlib.Core.Path.{◌∙◌}
 use Rattle.ask.proofs.questions.Asking.{answer-turned}
-use Rattle.calls.specs.Lent.{gain-answer}
+use Rattle.calls.specs.Lent.{gain_answer}
 use borrow.Author.Rules.{rules}
 use Rattle.ask.proofs.questions.gain.Statement.{statement}
 use Rattle.ask.proofs.questions.gain.Tie as tie
@@ -13,7 +13,7 @@ refused-requires : tie.Need-refused-requires
 refused-requires c κs = search rules
 
 returns : tie.Need-returns
-unfolding gain-answer
+unfolding gain_answer
 returns c = c.refused.ensures ∙ answer-turned _ _ _ _ c.before.before.refusal.ensures c.before.if1.true
 
 gain-in-requires : tie.Need-gain-in-requires

@@ -10,9 +10,9 @@ use Rattle.hypervolume.specs.Sorted.{Small}
 use Rattle.words.specs.Archive.{point}
 use Rattle.words.specs.Layout.{read}
 use Rattle.words.specs.Places.{row_at}
-use Rattle.records.specs.Columns.{leave-out}
+use Rattle.records.specs.Columns.{leave_out}
 use Rattle.words.proofs.Places.{held_small, point_at}
-use Rattle.ask.proofs.CountedAmounts.{counted-few, counted-placed}
+use Rattle.ask.proofs.CountedAmounts.{counted_few, counted_placed}
 use Rattle.ask.proofs.questions.Joints.{joint-counted}
 use Rattle.ask.proofs.questions.joint_at.Statement.{statement}
 use Rattle.ask.proofs.questions.joint_at.Tie as tie
@@ -36,10 +36,10 @@ count-joints-requires c κs =
 
 -- what was counted fits
 few : (c : tie.After-count-joints) → c.count-joints.result.moved ≤ 512
-few c = counted-few c.before.before.before.before.before.requires.0 c.count-joints.ensures
+few c = counted_few c.before.before.before.before.before.requires.0 c.count-joints.ensures
 
-placed : (c : tie.After-count-joints) → Placed (length (leave-out c.before.before.before.before.before.args.i (read c.before.before.before.before.before.args.w.now).rows)) (take c.count-joints.result.moved c.count-joints.new.1.1.1.0) (take c.count-joints.result.moved c.count-joints.new.1.1.1.1.0)
-placed c = counted-placed c.before.before.before.before.before.requires.0 c.count-joints.ensures (search rules) (search rules)
+placed : (c : tie.After-count-joints) → Placed (length (leave_out c.before.before.before.before.before.args.i (read c.before.before.before.before.before.args.w.now).rows)) (take c.count-joints.result.moved c.count-joints.new.1.1.1.0) (take c.count-joints.result.moved c.count-joints.new.1.1.1.1.0)
+placed c = counted_placed c.before.before.before.before.before.requires.0 c.count-joints.ensures (search rules) (search rules)
 
 array-share-prefix-places : tie.Need-array-share-prefix-places
 array-share-prefix-places c = omega (arith, few c.before.before, c.before.before.count-joints.auto)
@@ -64,7 +64,7 @@ returns c =
     let counted = c.before.before.before.before.before.before in
     let start = counted.before.before.before.before.before in
     joint-counted start.args.w.now _ _ start.requires.0 start.requires.1 start.requires.2 _ _ (read-point counted.before.before.before) counted.count-joints.ensures start.requires.3 c.before.place-among.ensures
-    (c.amount-at.ensures _ (placed counted))
+    (c.amount_at.ensures _ (placed counted))
 
 pub joint-at-spec : {M : Type 1} → statement M
 joint-at-spec =

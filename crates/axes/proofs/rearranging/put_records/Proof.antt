@@ -3,7 +3,7 @@ use Prim.Native.Nat.{◌-◌, ◌<◌}
 use native.Mathlib.Omega.{arith}
 use lib.ListN.{length}
 use Rattle.calls.proofs.Known.{known}
-use Rattle.axes.proofs.Keys.{named-at}
+use Rattle.axes.proofs.Keys.{named_at}
 use Rattle.axes.proofs.rearranging.Storing.{RecordsPut, records-none, records-more, records-end}
 use Rattle.axes.proofs.rearranging.put_records.Statement.{statement}
 use Rattle.axes.proofs.rearranging.put_records.Tie as tie
@@ -33,7 +33,7 @@ put-row-requires : tie.Need-put-row-requires invariant-loop decreases-loop
 put-row-requires c κs =
     let start = c.before.before.before.before.before.before.before in
     let turn = c.before.before in
-    (start.requires.0, start.requires.1, named-at start.requires.2 turn.loop-test.true, omega (arith, turn.loop-test.true, start.requires.2.many), omega (arith, turn.before.loop.invariant.long, start.requires.3))
+    (start.requires.0, start.requires.1, named_at start.requires.2 turn.loop-test.true, omega (arith, turn.loop-test.true, start.requires.2.many), omega (arith, turn.before.loop.invariant.long, start.requires.3))
 
 add-i : tie.Need-overflow-add-i invariant-loop decreases-loop
 add-i c = omega (arith, few c.before.before.before.before.before)

@@ -3,11 +3,11 @@ use Prim.Native.Nat.{◌+◌, ◌*◌}
 use mathlib.Core.Path.{ap, ◌∙◌}
 use native.Mathlib.Omega.{arith}
 use Rattle.slices.specs.Put.{put}
-use Rattle.words.specs.Layout.{record-words}
+use Rattle.words.specs.Layout.{record_words}
 use Rattle.words.proofs.Places.{point_at}
 use Rattle.calls.proofs.Known.{known}
 use Rattle.axes.specs.Orders.{rearranged}
-use Rattle.axes.proofs.rearranging.Storing.{row-rearranged}
+use Rattle.axes.proofs.rearranging.Storing.{row_rearranged}
 use borrow.Author.Rules.{rules}
 use Rattle.axes.proofs.rearranging.put_row.Statement.{statement}
 use Rattle.axes.proofs.rearranging.put_row.Tie as tie
@@ -61,8 +61,8 @@ returns c =
     let start = c.before.before.before.before.before.before.before.before.before.before in
     let read = c.before.before.before.before.before.before.record-at in
     let point = point_at start.args.w.now start.args.place read.result (search rules) read.ensures in
-    let row = row-rearranged start.args.order start.args.w.now start.args.place _ (c.before.before.before.before.before.rearranged.ensures ∙ ap (rearranged _) point) in
-    c.before.before.put_record.ensures ∙ ap (λ r. put start.args.second.now (8 + 5 * start.args.i) (record-words r)) row
+    let row = row_rearranged start.args.order start.args.w.now start.args.place _ (c.before.before.before.before.before.rearranged.ensures ∙ ap (rearranged _) point) in
+    c.before.before.put_record.ensures ∙ ap (λ r. put start.args.second.now (8 + 5 * start.args.i) (record_words r)) row
 
 pub put-row-spec : {M : Type 1} → statement M
 put-row-spec =

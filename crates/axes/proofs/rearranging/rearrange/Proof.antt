@@ -17,11 +17,11 @@ parts : {o : Outcome} {r v : ℕ} {w second : List ℕ} → o ≡ record { refus
 parts e = (sym (ap (λ (o : Outcome). o.refusal) e), sym (ap (λ (o : Outcome). o.words) e), sym (ap (λ (o : Outcome). o.log) e))
 
 returns : tie.Need-returns
-returns c = parts (refused _ _ _ c.before.rearrange-rows.ensures c.if1.true)
+returns c = parts (refused _ _ _ c.before.rearrange_rows.ensures c.if1.true)
 
 write-requires : tie.Need-write-requires
 write-requires c κs =
-    let h = rearrangeable _ _ _ (sym c.before.before.rearrange-rows.ensures ∙ c.before.if1.false) in
+    let h = rearrangeable _ _ _ (sym c.before.before.rearrange_rows.ensures ∙ c.before.if1.false) in
     (h.passes, h.known, h.long)
 
 same_length : tie.Need-same-length
@@ -29,7 +29,7 @@ same_length c = search rules
 
 returns-2 : tie.Need-returns-2
 returns-2 c =
-    let h = rearrangeable _ _ _ (sym c.before.before.before.before.before.rearrange-rows.ensures ∙ c.before.before.before.before.if1.false) in
+    let h = rearrangeable _ _ _ (sym c.before.before.before.before.before.rearrange_rows.ensures ∙ c.before.before.before.before.if1.false) in
     let made = parts (done _ _ _ h) in
     (made.0, made.1, c.before.before.write.ensures ∙ made.2)
 

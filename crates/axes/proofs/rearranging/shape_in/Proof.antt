@@ -1,7 +1,7 @@
 -- `shape_in` meets its contract: the reference rearranged, the capacity as it was.
 use mathlib.Core.Path.{ap, ◌∙◌}
 use native.Mathlib.Omega.{arith}
-use Rattle.words.specs.Layout.{read, read-shape}
+use Rattle.words.specs.Layout.{read, read_shape}
 use Rattle.calls.proofs.Known.{known}
 use Rattle.axes.specs.Orders.{rearranged}
 use Rattle.axes.proofs.rearranging.Storing.{shape-rearranged}
@@ -37,8 +37,8 @@ cast-t19 : tie.Need-overflow-cast-t19
 cast-t19 c = search rules
 
 returns : tie.Need-returns
-unfolding read read-shape
-returns c = shape-rearranged _ _ _ (c.before.before.rearranged.ensures ∙ ap (rearranged _) c.before.before.before.reference-of.ensures)
+unfolding read read_shape
+returns c = shape-rearranged _ _ _ (c.before.before.rearranged.ensures ∙ ap (rearranged _) c.before.before.before.reference_of.ensures)
 
 pub shape-in-spec : {M : Type 1} → statement M
 shape-in-spec =

@@ -29,7 +29,7 @@ add-clear : tie.Need-overflow-add-clear
 add-clear c = search rules
 
 sub-clear : tie.Need-overflow-sub-clear
-sub-clear c = (known _ c.before.before.before.before.before.before.before.before.before.before.before.before.before.before.before.before.before.before.before.requires.0).held-within
+sub-clear c = (known _ c.before.before.before.before.before.before.before.before.before.before.before.before.before.before.before.before.before.before.before.requires.0).held_within
 
 mul-clear-2 : tie.Need-overflow-mul-clear-2
 unfolding extent

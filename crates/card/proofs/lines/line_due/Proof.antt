@@ -1,6 +1,6 @@
 -- `card::lines::line_due` meets its contract: whether a line is due, and the reading of it.
 use borrow.Author.Rules.{rules}
-use Rattle.card.proofs.lines.LineDue.{due-before, due-next, due-behind}
+use Rattle.card.proofs.lines.LineDue.{due-before, due_next, due-behind}
 use Rattle.card.proofs.lines.line_due.Statement.{statement}
 use Rattle.card.proofs.lines.line_due.Tie as tie
 
@@ -20,7 +20,7 @@ line-at-requires : tie.Need-line-at-requires
 line-at-requires c κs = search rules
 
 returns-2 : tie.Need-returns-2
-returns-2 c = due-next _ c.before.before.if1.false c.before.if2.true c.line_at_lem.ensures
+returns-2 c = due_next _ c.before.before.if1.false c.before.if2.true c.line_at_lem.ensures
 
 returns-3 : tie.Need-returns-3
 returns-3 c = due-behind _ c.before.if1.false c.if2.false

@@ -41,7 +41,7 @@ use denote.Triple.Table.{entered, cited}
 use denote.Triple.Walked.{says, Stays, stay_none, walk_of, Goes-none, Walks, ends_at, walked, walk_Meets}
 use denote.Exit.{yes}
 use denote.Triple.Clauses.{ensured, lasts}
-use Rattle.card.specs.Card.{due, due-of}
+use Rattle.card.specs.Card.{due, due_of}
 use Rattle.card.specs.declared.lines.Reader.{Reader}
 use Rattle.card.specs.declared.lines.Due.{Due}
 use Rattle.card.specs.contracts.lines.Reader as T
@@ -81,7 +81,7 @@ module _ {M : Type 1} {𝓤 : Ura M} (𝓛 : Logic 𝓤) (mem : Memory → SProp
 
   -- what is known of the result r
   abbrev Found : Due → Type 0
-  Found r = due-of r ≡ due d.card.now d.line
+  Found r = due_of r ≡ due d.card.now d.line
 
   abbrev Post : Val → SProp 𝓤
   Post = (walk_of 𝓛 next.ended stayed (next.clauses 𝓛 mem run)).post (((κ, tt), (q, tt), tt, (d, tt), (mach ∷ [], tt)), tt)

@@ -1,7 +1,7 @@
 -- `card::loading::load` meets its contract: a card that is judged to be refused leaves the slice as it was, and any other
 -- is read into it.
 use borrow.Author.Rules.{rules}
-use Rattle.card.proofs.loading.Judged.{load-refused, load-done}
+use Rattle.card.proofs.loading.Judged.{load_refused, load-done}
 use Rattle.card.proofs.loading.load.Statement.{statement}
 use Rattle.card.proofs.loading.load.Tie as tie
 
@@ -9,7 +9,7 @@ judge-requires : tie.Need-judge-requires
 judge-requires c κs = search rules
 
 returns : tie.Need-returns
-returns c = load-refused _ _ c.before.before.judge.ensures c.if1.true
+returns c = load_refused _ _ c.before.before.judge.ensures c.if1.true
 
 read-card-requires : tie.Need-read-card-requires
 read-card-requires c κs = search rules

@@ -1,7 +1,7 @@
 -- `card::verdict::further_row` meets its contract: row 15, or rows 5 to 8 in turn.
 use borrow.Author.Rules.{rules}
 use Rattle.card.specs.Card.{trial_on}
-use Rattle.card.specs.Further.{number-due, further-rows}
+use Rattle.card.specs.Further.{number_due, further_rows}
 use Rattle.card.proofs.verdict.further_row.Statement.{statement}
 use Rattle.card.proofs.verdict.further_row.Tie as tie
 
@@ -12,7 +12,7 @@ enum_told : tie.Need-enum-told
 enum_told c = search rules
 
 returns : tie.Need-returns
-unfolding further-rows
+unfolding further_rows
 returns c = rw c.enum_told.given.1
 
 number-allowed-requires : tie.Need-number-allowed-requires
@@ -22,7 +22,7 @@ coordinates-allowed-requires : tie.Need-coordinates-allowed-requires
 coordinates-allowed-requires c κs = search rules
 
 held-requires : tie.Need-held-requires
-unfolding number-due
+unfolding number_due
 held-requires c κs = rw c.before.before.before.l.given.1 at c.before.before.before.before.before.before.requires
 
 guard-requires : tie.Need-guard-requires
@@ -38,7 +38,7 @@ guard-requires-4 : tie.Need-guard-requires-4
 guard-requires-4 c κs = search rules
 
 returns-2 : tie.Need-returns-2
-unfolding further-rows number-due trial_on
+unfolding further_rows number_due trial_on
 returns-2 c =
     let at_held = c.before.before.before.before in
     rw (
@@ -48,8 +48,8 @@ returns-2 c =
       c.before.before.guard2.ensures,
       c.before.before.before.guard.ensures,
       at_held.held.ensures,
-      at_held.before.coordinates-allowed.ensures,
-      at_held.before.before.number-allowed.ensures,
+      at_held.before.coordinates_allowed.ensures,
+      at_held.before.before.number_allowed.ensures,
     )
 
 pub further-row-spec : {M : Type 1} → statement M

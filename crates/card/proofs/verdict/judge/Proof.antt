@@ -3,13 +3,13 @@ use mathlib.Core.Path.{◌≡◌, sym, ap, ◌∙◌}
 use mathlib.Core.Option.{some}
 use borrow.Author.Rules.{rules}
 use Rattle.text.specs.Lines.{numbers_of}
-use Rattle.card.specs.Card.{shape_on, due, due-of}
+use Rattle.card.specs.Card.{shape_on, due, due_of}
 use Rattle.card.proofs.verdict.FirstLine.{no-first, bad-first, first-refused, first-passed}
 use Rattle.card.proofs.verdict.judge.Statement.{statement}
 use Rattle.card.proofs.verdict.judge.Tie as tie
 
 here : (c : tie.After-l) → some (numbers_of c.l.given.0.0) ≡ due c.before.before.before.before.args.card.now 1
-here c = sym (ap due-of c.l.given.1) ∙ c.before.before.read-line.ensures
+here c = sym (ap due_of c.l.given.1) ∙ c.before.before.read-line.ensures
 
 read-line-requires : tie.Need-read-line-requires
 read-line-requires c κs = search rules
@@ -24,7 +24,7 @@ refused-requires : tie.Need-refused-requires
 refused-requires c κs = search rules
 
 returns : tie.Need-returns
-returns c = no-first _ _ (sym (ap due-of c.before.enum_told.given.1) ∙ c.before.before.before.read-line.ensures) c.refused.ensures
+returns c = no-first _ _ (sym (ap due_of c.before.enum_told.given.1) ∙ c.before.before.before.read-line.ensures) c.refused.ensures
 
 enum-known-l-2 : tie.Need-enum-known-l-2
 enum-known-l-2 c = search rules
@@ -57,7 +57,7 @@ returns-4 : tie.Need-returns-4
 unfolding shape_on
 returns-4 c =
     let at-l2 = c.before.before.before.before in
-    first-passed _ _ _ (ap (λ l. some (numbers_of l)) (sym at-l2.l2.given.1) ∙ here at-l2.before.before.before) c.before.before.start-row.ensures c.before.if1.false c.judge-further.ensures
+    first-passed _ _ _ (ap (λ l. some (numbers_of l)) (sym at-l2.l2.given.1) ∙ here at-l2.before.before.before) c.before.before.start-row.ensures c.before.if1.false c.judge_further.ensures
 
 pub judge-spec : {M : Type 1} → statement M
 judge-spec =

@@ -1,8 +1,8 @@
 -- `card::verdict::number_at` meets its contract: the number on the line due.
 use mathlib.Core.Path.{sym, ap, ◌∙◌}
 use borrow.Author.Rules.{rules}
-use Rattle.card.specs.Card.{due-of}
-use Rattle.card.specs.Further.{number-due}
+use Rattle.card.specs.Card.{due_of}
+use Rattle.card.specs.Further.{number_due}
 use Rattle.card.proofs.verdict.number_at.Statement.{statement}
 use Rattle.card.proofs.verdict.number_at.Tie as tie
 
@@ -16,8 +16,8 @@ enum_told : tie.Need-enum-told
 enum_told c = search rules
 
 returns : tie.Need-returns
-unfolding number-due
-returns c = ap number-due (sym (ap due-of c.enum_told.given.1) ∙ c.before.before.read-line.ensures)
+unfolding number_due
+returns c = ap number_due (sym (ap due_of c.enum_told.given.1) ∙ c.before.before.read-line.ensures)
 
 number-on-requires : tie.Need-number-on-requires
 number-on-requires c κs = search rules
@@ -25,7 +25,7 @@ number-on-requires c κs = search rules
 returns-2 : tie.Need-returns-2
 returns-2 c =
     c.number-on.ensures
-    ∙ ap number-due (sym (ap due-of c.before.before.l.given.1) ∙ c.before.before.before.before.read-line.ensures)
+    ∙ ap number_due (sym (ap due_of c.before.before.l.given.1) ∙ c.before.before.before.before.read-line.ensures)
 
 pub number-at-spec : {M : Type 1} → statement M
 number-at-spec =

@@ -26,10 +26,10 @@ element-copy-out-if1-2 : tie.Need-element-copy-out-if1-2 invariant-loop decrease
 element-copy-out-if1-2 c = search rules
 
 same_length : tie.Need-same-length invariant-loop decreases-loop
-same_length c = c.before.before.before.before.before.loop.invariant.corners-long
+same_length c = c.before.before.before.before.before.loop.invariant.corners_long
 
 same-length-2 : tie.Need-same-length-2 invariant-loop decreases-loop
-same-length-2 c = c.before.before.before.before.before.loop.invariant.places-long
+same-length-2 c = c.before.before.before.before.before.loop.invariant.places_long
 
 returns : tie.Need-returns invariant-loop decreases-loop
 returns c =
@@ -82,10 +82,10 @@ loop-again-2 c =
     gathering-skip read.before.before.loop.invariant read.before.loop-test.true read.point_at.ensures tested.dominates.ensures c.if2.false
 
 same-length-3 : tie.Need-same-length-3 invariant-loop decreases-loop
-same-length-3 c = c.before.loop.invariant.corners-long
+same-length-3 c = c.before.loop.invariant.corners_long
 
 same-length-4 : tie.Need-same-length-4 invariant-loop decreases-loop
-same-length-4 c = c.before.loop.invariant.places-long
+same-length-4 c = c.before.loop.invariant.places_long
 
 returns-2 : tie.Need-returns-2 invariant-loop decreases-loop
 returns-2 c = gathering-end c.before.loop.invariant c.loop-test.false

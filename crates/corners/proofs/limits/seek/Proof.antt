@@ -36,7 +36,7 @@ axes-within-requires-2 c κs = search rules
 
 add-if2 : tie.Need-overflow-add-if2 invariant-loop decreases-loop
 add-if2 c =
-    let a : c.before.axes-within.result ≤ 3 = axes-few _ _ (search rules) c.before.axes-within.ensures in
+    let a : c.before.axes_within.result ≤ 3 = axes-few _ _ (search rules) c.before.axes_within.ensures in
     let b : c.axes-within2.result ≤ 3 = axes-few _ _ (search rules) c.axes-within2.ensures in
     omega arith
 

@@ -2,8 +2,8 @@
 use mathlib.Core.Path.{sym, ap, ◌∙◌}
 use lib.ListN.{length}
 use borrow.Author.Rules.{rules}
-use Rattle.figures.proofs.Boxes.{length-totals}
-use Rattle.figures.proofs.Loading.{runs-totals}
+use Rattle.figures.proofs.Boxes.{length_totals}
+use Rattle.figures.proofs.Loading.{runs_totals}
 use Rattle.figures.proofs.runs.answer_by.Statement.{statement}
 use Rattle.figures.proofs.runs.answer_by.Tie as tie
 
@@ -14,7 +14,7 @@ sort-requires : tie.Need-sort-requires
 sort-requires c κs =
     let asked = c.before.before.before.before.before.before.before.before.before.before.requires in
     let loaded = c.before.before.before.before.load-totals.ensures in
-    (runs-totals asked.0 loaded, asked.2 ∙ sym (ap length loaded ∙ length-totals _ _))
+    (runs_totals asked.0 loaded, asked.2 ∙ sym (ap length loaded ∙ length_totals _ _))
 
 answer-of-requires : tie.Need-answer-of-requires
 answer-of-requires c κs = search rules
@@ -26,7 +26,7 @@ same-length-2 : tie.Need-same-length-2
 same-length-2 c = search rules
 
 returns : tie.Need-returns
-returns c = c.answer-of.ensures
+returns c = c.answer_of.ensures
 
 pub answer-by-spec : {M : Type 1} → statement M
 answer-by-spec =

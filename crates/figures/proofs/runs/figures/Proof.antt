@@ -6,7 +6,7 @@ use lib.ListN.{length, take, replicate}
 use lib.Seq.{length-take-le}
 use borrow.Author.Rules.{rules}
 use borrow.Author.Tests.{not-true, not-false}
-use Rattle.figures.proofs.Answering.{number-refused, number-allowed, numbered}
+use Rattle.figures.proofs.Answering.{number_refused, number_allowed, numbered}
 use Rattle.figures.proofs.runs.figures.Statement.{statement}
 use Rattle.figures.proofs.runs.figures.Tie as tie
 
@@ -17,7 +17,7 @@ refused-requires : tie.Need-refused-requires
 refused-requires c κs = search rules
 
 returns : tie.Need-returns
-returns c = number-refused _ _ c.before.before.within.ensures (not-true _ c.before.if1.true) c.refused.ensures
+returns c = number_refused _ _ c.before.before.within.ensures (not-true _ c.before.if1.true) c.refused.ensures
 
 few : (c : tie.Else1) → (1 ≤ c.before.before.before.args.number) × (c.before.before.before.args.number ≤ 15)
 few c = numbered _ c.before.within.ensures (not-false _ c.if1.false)
@@ -39,7 +39,7 @@ figures-in-requires c κs =
 
 returns-2 : tie.Need-returns-2
 returns-2 c =
-    number-allowed _ _ (long c.before.before.before) c.before.before.before.before.within.ensures (not-false _ c.before.before.before.if1.false) c.before.figures-in.ensures
+    number_allowed _ _ (long c.before.before.before) c.before.before.before.before.within.ensures (not-false _ c.before.before.before.if1.false) c.before.figures-in.ensures
 
 pub figures-spec : {M : Type 1} → statement M
 figures-spec =

@@ -5,7 +5,7 @@ use lib.ListN.{replicate}
 use lib.Seq.{length-take-le}
 use borrow.Author.Rules.{rules}
 use borrow.Author.Tests.{not-true, not-false}
-use Rattle.figures.proofs.Answering.{references-differ, references-alike}
+use Rattle.figures.proofs.Answering.{references_differ, references_alike}
 use Rattle.figures.proofs.runs.figures_from.Statement.{statement}
 use Rattle.figures.proofs.runs.figures_from.Tie as tie
 
@@ -16,7 +16,7 @@ refused-requires : tie.Need-refused-requires
 refused-requires c κs = search rules
 
 returns : tie.Need-returns
-returns c = references-differ _ _ c.before.before.of-one-reference.ensures (not-true _ c.before.if1.true) c.refused.ensures
+returns c = references_differ _ _ c.before.before.of_one_reference.ensures (not-true _ c.before.if1.true) c.refused.ensures
 
 array-borrow-prefix-numbers : tie.Need-array-borrow-prefix-numbers
 array-borrow-prefix-numbers c = search rules
@@ -38,14 +38,14 @@ answer-by-requires c κs =
         begun = asked.0;
         some = asked.1;
         few = asked.2;
-        alike = sym c.before.before.before.of-one-reference.ensures ∙ not-false _ c.before.before.if1.false;
+        alike = sym c.before.before.before.of_one_reference.ensures ∙ not-false _ c.before.before.if1.false;
       },
       long,
       long,
     )
 
 returns-2 : tie.Need-returns-2
-returns-2 c = references-alike _ _ c.before.before.before.before.before.before.of-one-reference.ensures (not-false _ c.before.before.before.before.before.if1.false) c.before.before.answer-by.ensures
+returns-2 c = references_alike _ _ c.before.before.before.before.before.before.of_one_reference.ensures (not-false _ c.before.before.before.before.before.if1.false) c.before.before.answer-by.ensures
 
 pub figures-from-spec : {M : Type 1} → statement M
 figures-from-spec =

@@ -2,7 +2,7 @@
 use mathlib.Core.Path.{sym, ◌∙◌}
 use native.Mathlib.Omega.{arith}
 use borrow.Author.Rules.{rules}
-use Rattle.figures.proofs.Answering.{one-refused, all-passed}
+use Rattle.figures.proofs.Answering.{one_refused, all_passed}
 use Rattle.figures.proofs.runs.figures_in.Statement.{statement}
 use Rattle.figures.proofs.runs.figures_in.Tie as tie
 
@@ -16,7 +16,7 @@ same_length : tie.Need-same-length
 same_length c = search rules
 
 returns : tie.Need-returns
-returns c = one-refused _ _ c.before.before.before.before.check.ensures.0 c.before.if1.true c.refused.ensures
+returns c = one_refused _ _ c.before.before.before.before.check.ensures.0 c.before.if1.true c.refused.ensures
 
 figures-from-requires : tie.Need-figures-from-requires
 figures-from-requires c κs =
@@ -28,7 +28,7 @@ same-length-2 : tie.Need-same-length-2
 same-length-2 c = search rules
 
 returns-2 : tie.Need-returns-2
-returns-2 c = all-passed _ _ c.before.before.before.before.before.check.auto.1.0 (sym c.before.before.before.before.before.check.ensures.0 ∙ c.before.before.if1.false) c.figures-from.ensures
+returns-2 c = all_passed _ _ c.before.before.before.before.before.check.auto.1.0 (sym c.before.before.before.before.before.check.ensures.0 ∙ c.before.before.if1.false) c.figures-from.ensures
 
 pub figures-in-spec : {M : Type 1} → statement M
 figures-in-spec =

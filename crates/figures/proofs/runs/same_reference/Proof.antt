@@ -1,6 +1,6 @@
 -- `same_reference` meets its contract: words 2, 3 and 4.
 use borrow.Author.Rules.{rules}
-use Rattle.figures.proofs.Loading.{same-by-words}
+use Rattle.figures.proofs.Loading.{same_by_words}
 use Rattle.figures.proofs.runs.same_reference.Statement.{statement}
 use Rattle.figures.proofs.runs.same_reference.Tie as tie
 
@@ -29,7 +29,7 @@ both-requires-2 : tie.Need-both-requires-2
 both-requires-2 c κs = search rules
 
 returns : tie.Need-returns
-returns c = same-by-words _ _ c.before.both.ensures c.both2.ensures
+returns c = same_by_words _ _ c.before.both.ensures c.both2.ensures
 
 pub same-reference-spec : {M : Type 1} → statement M
 same-reference-spec =

@@ -2,7 +2,7 @@
 use Prim.Native.Nat.{◌-◌}
 use native.Mathlib.Omega.{arith}
 use borrow.Author.Rules.{rules}
-use Rattle.hypervolume.proofs.Points.{AxesCounted, counted_none, counted-more, counted-end}
+use Rattle.hypervolume.proofs.Points.{AxesCounted, counted_none, counted_more, counted_end}
 use Rattle.hypervolume.proofs.Point.axes_within.Statement.{statement}
 use Rattle.hypervolume.proofs.Point.axes_within.Tie as tie
 
@@ -33,7 +33,7 @@ at-most-requires c κs = search rules
 add-axes : tie.Need-overflow-add-axes invariant-loop decreases-loop
 add-axes c =
     let l = c.before.before.before.before.loop in
-    let next = counted-more l.invariant c.before.before.before.loop-test.true c.at_most.ensures in
+    let next = counted_more l.invariant c.before.before.before.loop-test.true c.at_most.ensures in
     record { fits = omega (arith, next.most, next.along.within) }
 
 add-axis : tie.Need-overflow-add-axis invariant-loop decreases-loop
@@ -43,10 +43,10 @@ loop-less : tie.Need-loop-smaller invariant-loop decreases-loop
 loop-less c = search rules
 
 loop-again : tie.Need-loop-preserved invariant-loop decreases-loop
-loop-again c = counted-more c.before.before.before.before.loop.invariant c.before.before.before.loop-test.true c.at_most.ensures
+loop-again c = counted_more c.before.before.before.before.loop.invariant c.before.before.before.loop-test.true c.at_most.ensures
 
 returns : tie.Need-returns invariant-loop decreases-loop
-returns c = counted-end c.before.loop.invariant c.loop-test.false
+returns c = counted_end c.before.loop.invariant c.loop-test.false
 
 pub axes-within-spec : {M : Type 1} → statement M
 axes-within-spec =

@@ -2,7 +2,7 @@
 -- the edge product.
 use Prim.Native.Nat.{◌-◌}
 use borrow.Author.Rules.{rules}
-use Rattle.hypervolume.proofs.Points.{Multiplied, multiplied-none, multiplied-more, multiplied-fits, multiplied-end}
+use Rattle.hypervolume.proofs.Points.{Multiplied, multiplied_none, multiplied_more, multiplied_fits, multiplied_end}
 use Rattle.hypervolume.proofs.Point.edges.Statement.{statement}
 use Rattle.hypervolume.proofs.Point.edges.Tie as tie
 
@@ -13,7 +13,7 @@ abbrev decreases-loop : tie.decreases-loop
 decreases-loop self reference product₀ axis₀ product axis = 3 - axis
 
 loop-holds : tie.Need-loop-init invariant-loop decreases-loop
-loop-holds c = multiplied-none 3 _ _ (search rules) (search rules)
+loop-holds c = multiplied_none 3 _ _ (search rules) (search rules)
 
 mul-edge : tie.Need-overflow-mul-edge invariant-loop decreases-loop
 mul-edge c = search rules
@@ -34,7 +34,7 @@ mul-product : tie.Need-overflow-mul-product invariant-loop decreases-loop
 mul-product c =
     let l = c.before.before.before.before.loop in
     record {
-      fits = multiplied-fits l.invariant c.before.before.before.loop-test.true c.edge.ensures (c.before.before.before.before.before.requires l.axis);
+      fits = multiplied_fits l.invariant c.before.before.before.loop-test.true c.edge.ensures (c.before.before.before.before.before.requires l.axis);
     }
 
 add-axis : tie.Need-overflow-add-axis invariant-loop decreases-loop
@@ -46,10 +46,10 @@ loop-less c = search rules
 loop-again : tie.Need-loop-preserved invariant-loop decreases-loop
 loop-again c =
     let l = c.before.before.before.before.loop in
-    multiplied-more l.invariant c.before.before.before.loop-test.true c.edge.ensures (c.before.before.before.before.before.requires l.axis)
+    multiplied_more l.invariant c.before.before.before.loop-test.true c.edge.ensures (c.before.before.before.before.before.requires l.axis)
 
 returns : tie.Need-returns invariant-loop decreases-loop
-returns c = multiplied-end c.before.loop.invariant c.loop-test.false
+returns c = multiplied_end c.before.loop.invariant c.loop-test.false
 
 pub edges_spec : {M : Type 1} → statement M
 edges_spec =

@@ -1,7 +1,7 @@
 -- `Point::join` meets its contract. The invariant: the axes passed are those of the upper corner.
 use Prim.Native.Nat.{◌-◌}
 use borrow.Author.Rules.{rules}
-use Rattle.hypervolume.proofs.Points.{Joined, joined-none, joined-more, joined_end}
+use Rattle.hypervolume.proofs.Points.{Joined, joined_none, joined_more, joined_end}
 use Rattle.hypervolume.proofs.Point.join.Statement.{statement}
 use Rattle.hypervolume.proofs.Point.join.Tie as tie
 
@@ -12,7 +12,7 @@ abbrev decreases-loop : tie.decreases-loop
 decreases-loop other corner₀ axis₀ corner axis = 3 - axis
 
 loop-holds : tie.Need-loop-init invariant-loop decreases-loop
-loop-holds c = joined-none 3 _ _ (search rules) (search rules)
+loop-holds c = joined_none 3 _ _ (search rules) (search rules)
 
 mul-larger : tie.Need-overflow-mul-larger invariant-loop decreases-loop
 mul-larger c = search rules
@@ -42,7 +42,7 @@ loop-less : tie.Need-loop-smaller invariant-loop decreases-loop
 loop-less c = search rules
 
 loop-again : tie.Need-loop-preserved invariant-loop decreases-loop
-loop-again c = joined-more c.before.before.before.before.loop.invariant c.before.before.before.loop-test.true c.larger.ensures
+loop-again c = joined_more c.before.before.before.before.loop.invariant c.before.before.before.loop-test.true c.larger.ensures
 
 returns : tie.Need-returns invariant-loop decreases-loop
 returns c = joined_end c.before.loop.invariant c.loop-test.false

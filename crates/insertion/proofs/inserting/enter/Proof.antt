@@ -4,9 +4,9 @@ use native.Mathlib.Omega.{arith}
 use borrow.Author.Rules.{rules}
 use Rattle.words.specs.Archive.{Trial}
 use Rattle.words.specs.Layout.{read}
-use Rattle.words.specs.Places.{as_row, as-trial}
-use Rattle.words.proofs.Passed.{coordinates-small}
-use Rattle.calls.specs.Calls.{admission-rows}
+use Rattle.words.specs.Places.{as_row, as_trial}
+use Rattle.words.proofs.Passed.{coordinates_small}
+use Rattle.calls.specs.Calls.{admission_rows}
 use Rattle.insertion.proofs.inserting.Admitting.{admitted}
 use Rattle.insertion.proofs.inserting.Outcomes.{enter-turned, enter-put, enter-same}
 use Rattle.insertion.proofs.inserting.enter.Statement.{statement}
@@ -19,15 +19,15 @@ own c = c.before.before.before.before.before.before.before
 abbrev trial : tie.Start → Trial
 trial s = (as_row s.args.row).trial
 
-admits : (c : tie.Else1) → admission-rows (read (own c).args.w.now) (trial (own c)) 0 ≡ 0
+admits : (c : tie.Else1) → admission_rows (read (own c).args.w.now) (trial (own c)) 0 ≡ 0
 admits c = sym c.before.admission.ensures ∙ c.if1.false
 
 -- The trial of the point made is the trial given.
-given : (c : tie.After-new) → as-trial (own c.before).args.row.number c.new.result.at ≡ trial (own c.before)
-given c = ap (as-trial (own c.before).args.row.number) c.new.ensures
+given : (c : tie.After-new) → as_trial (own c.before).args.row.number c.new.result.at ≡ trial (own c.before)
+given c = ap (as_trial (own c.before).args.row.number) c.new.ensures
 
-made : (c : tie.After-new) → admission-rows (read (own c.before).args.w.now) (as-trial (own c.before).args.row.number c.new.result.at) 0 ≡ 0
-made c = ap (λ t. admission-rows (read (own c.before).args.w.now) t 0) (given c) ∙ admits c.before
+made : (c : tie.After-new) → admission_rows (read (own c.before).args.w.now) (as_trial (own c.before).args.row.number c.new.result.at) 0 ≡ 0
+made c = ap (λ t. admission_rows (read (own c.before).args.w.now) t 0) (given c) ∙ admits c.before
 
 admission-requires : tie.Need-admission-requires
 admission-requires c κs = c.before.before.before.before.before.requires.0
@@ -40,7 +40,7 @@ returns c = enter-turned _ _ _ c.before.admission.ensures c.if1.true
 
 new-requires : tie.Need-new-requires
 new-requires c κs =
-    let small = coordinates-small _ (admitted _ _ (own (c)).requires.0 (admits (c))).coordinates in
+    let small = coordinates_small _ (admitted _ _ (own (c)).requires.0 (admits (c))).coordinates in
     (omega (arith, small 0), omega (arith, small 1), omega (arith, small 2))
 
 put-in-requires : tie.Need-put-in-requires

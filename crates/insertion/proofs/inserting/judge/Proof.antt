@@ -8,12 +8,12 @@ use lib.Seq.{length-take-le}
 use Rattle.hypervolume.specs.Cells.{box}
 use Rattle.words.specs.Archive.{point}
 use Rattle.words.specs.Layout.{read}
-use Rattle.words.specs.Places.{as-trial}
-use Rattle.words.proofs.Passed.{reference-small}
-use Rattle.words.proofs.Places.{point-of-trial}
-use Rattle.calls.specs.Calls.{box_of, insert-gain}
+use Rattle.words.specs.Places.{as_trial}
+use Rattle.words.proofs.Passed.{reference_small}
+use Rattle.words.proofs.Places.{point_of_trial}
+use Rattle.calls.specs.Calls.{box_of, insert_gain}
 use Rattle.calls.proofs.Known.{known}
-use Rattle.ask.proofs.CountedAmounts.{all-gain, counted-few}
+use Rattle.ask.proofs.CountedAmounts.{all_gain, counted_few}
 use Rattle.insertion.proofs.inserting.Lowering.{counted-shares, judged-over, judged-each, gain-fits}
 use borrow.Author.Rules.{rules}
 use Rattle.insertion.proofs.inserting.judge.Statement.{statement}
@@ -24,24 +24,24 @@ own c = c.before.before.before.before.before.before.before.before.before.before.
 
 boxed : (c : tie.After-box-of) → c.box_of.result ≡ box_of (read c.before.before.before.before.before.before.before.before.before.before.before.before.before.before.before.before.before.before.before.before.before.args.w.now)
 unfolding read
-boxed c = c.box_of.ensures ∙ ap box c.before.reference-of.ensures
+boxed c = c.box_of.ensures ∙ ap box c.before.reference_of.ensures
 
 -- the point is that of a trial of any number
-own-point : (s : tie.Start) (number : ℕ) → s.args.p.at ≡ point (as-trial number s.args.p.at)
-own-point s number = sym (point-of-trial number s.args.p.at (search rules))
+own-point : (s : tie.Start) (number : ℕ) → s.args.p.at ≡ point (as_trial number s.args.p.at)
+own-point s number = sym (point_of_trial number s.args.p.at (search rules))
 
-gained : (c : tie.After-count-joints-in) (number : ℕ) → c.count-joints-in.result.gain ≡ insert-gain (read (own c).args.w.now) (as-trial number (own c).args.p.at)
-gained c number = all-gain _ (own-point (own c) number) c.count-joints-in.ensures
+gained : (c : tie.After-count-joints-in) (number : ℕ) → c.count-joints-in.result.gain ≡ insert_gain (read (own c).args.w.now) (as_trial number (own c).args.p.at)
+gained c number = all_gain _ (own-point (own c) number) c.count-joints-in.ensures
 
 -- what was counted fits
 few : (c : tie.After-count-joints-in) → c.count-joints-in.result.moved ≤ 512
-few c = counted-few (own c).requires.0 c.count-joints-in.ensures
+few c = counted_few (own c).requires.0 c.count-joints-in.ensures
 
-places-long : (c : tie.After-count-joints-in) → 512 ≤ length c.count-joints-in.new.1.1.1.1.1.0
-places-long c = omega (arith, (own c).requires.2.places-long, c.count-joints-in.auto)
+places_long : (c : tie.After-count-joints-in) → 512 ≤ length c.count-joints-in.new.1.1.1.1.1.0
+places_long c = omega (arith, (own c).requires.2.places_long, c.count-joints-in.auto)
 
-counts-long : (c : tie.After-count-joints-in) → 512 ≤ length c.count-joints-in.new.1.1.1.1.1.1.1.0
-counts-long c = omega (arith, (own c).requires.2.counts-long, c.count-joints-in.auto)
+counts_long : (c : tie.After-count-joints-in) → 512 ≤ length c.count-joints-in.new.1.1.1.1.1.1.1.0
+counts_long c = omega (arith, (own c).requires.2.counts_long, c.count-joints-in.auto)
 
 shared-slice-read-n : tie.Need-shared-slice-read-n
 shared-slice-read-n c = omega (arith, known c.before.before.before.before.before.args.w.now c.before.before.before.before.before.requires.0)
@@ -53,7 +53,7 @@ reference-of-requires : tie.Need-reference-of-requires
 reference-of-requires c κs = search rules
 
 box-of-requires : tie.Need-box-of-requires
-box-of-requires c κs = reference-small _ _ (known c.before.before.before.before.before.before.before.before.before.before.before.before.before.before.before.before.before.before.before.before.args.w.now c.before.before.before.before.before.before.before.before.before.before.before.before.before.before.before.before.before.before.before.before.requires.0).shaped c.reference-of.ensures
+box-of-requires c κs = reference_small _ _ (known c.before.before.before.before.before.before.before.before.before.before.before.before.before.before.before.before.before.before.before.before.args.w.now c.before.before.before.before.before.before.before.before.before.before.before.before.before.before.before.before.before.before.before.before.requires.0).shaped c.reference_of.ensures
 
 shared-slice-read-if1 : tie.Need-shared-slice-read-if1
 shared-slice-read-if1 c = omega (arith, known c.before.before.before.before.before.before.before.before.before.before.before.before.before.before.before.before.before.before.before.before.before.before.args.w.now c.before.before.before.before.before.before.before.before.before.before.before.before.before.before.before.before.before.before.before.before.before.before.requires.0)
@@ -80,25 +80,25 @@ returns : tie.Need-returns
 returns c number =
     let counted = c.before.before.before.before.before.before.before.before.before.before.before.before.before in
     let start = own counted in
-    judged-over _ start.pre.0 (own-point start number) counted.count-joints-in.ensures (places-long counted) (counts-long counted) _ (boxed c.before.before.before) c.if1.true
+    judged-over _ start.pre.0 (own-point start number) counted.count-joints-in.ensures (places_long counted) (counts_long counted) _ (boxed c.before.before.before) c.if1.true
 
 slice-reshare-prefix-enough : tie.Need-slice-reshare-prefix-enough
-slice-reshare-prefix-enough c = omega (arith, few c.before.before.before.before.before.before.before.before.before.before.before.before.before, places-long c.before.before.before.before.before.before.before.before.before.before.before.before.before)
+slice-reshare-prefix-enough c = omega (arith, few c.before.before.before.before.before.before.before.before.before.before.before.before.before, places_long c.before.before.before.before.before.before.before.before.before.before.before.before.before)
 
 slice-aggregate-enough : tie.Need-slice-aggregate-enough
-slice-aggregate-enough c = sym (length-take-le _ _ (omega (arith, few c.before.before.before.before.before.before.before.before.before.before.before.before.before.before, places-long c.before.before.before.before.before.before.before.before.before.before.before.before.before.before)))
+slice-aggregate-enough c = sym (length-take-le _ _ (omega (arith, few c.before.before.before.before.before.before.before.before.before.before.before.before.before.before, places_long c.before.before.before.before.before.before.before.before.before.before.before.before.before.before)))
 
 slice-reshare-prefix-enough-2 : tie.Need-slice-reshare-prefix-enough-2
-slice-reshare-prefix-enough-2 c = omega (arith, few c.before.before.before.before.before.before.before.before.before.before.before.before.before.before, counts-long c.before.before.before.before.before.before.before.before.before.before.before.before.before.before)
+slice-reshare-prefix-enough-2 c = omega (arith, few c.before.before.before.before.before.before.before.before.before.before.before.before.before.before, counts_long c.before.before.before.before.before.before.before.before.before.before.before.before.before.before)
 
 slice-aggregate-enough-2 : tie.Need-slice-aggregate-enough-2
-slice-aggregate-enough-2 c = sym (length-take-le _ _ (omega (arith, few c.before.before.before.before.before.before.before.before.before.before.before.before.before.before.before, counts-long c.before.before.before.before.before.before.before.before.before.before.before.before.before.before.before)))
+slice-aggregate-enough-2 c = sym (length-take-le _ _ (omega (arith, few c.before.before.before.before.before.before.before.before.before.before.before.before.before.before.before, counts_long c.before.before.before.before.before.before.before.before.before.before.before.before.before.before.before)))
 
 enough-requires : tie.Need-enough-requires
 enough-requires c κs =
     let counted = c.before.before.before.before.before.before.before.before.before.before.before.before.before.before.before in
     let start = own counted in
-    (omega (arith, known c.before.before.before.before.before.before.before.before.before.before.before.before.before.before.before.before.before.before.before.before.before.before.before.before.before.before.args.w.now c.before.before.before.before.before.before.before.before.before.before.before.before.before.before.before.before.before.before.before.before.before.before.before.before.before.before.requires.0), (counted-shares (as-trial 0 start.args.p.at) start.pre.0 (own-point start 0) counted.count-joints-in.ensures (places-long counted) (counts-long counted)).placed)
+    (omega (arith, known c.before.before.before.before.before.before.before.before.before.before.before.before.before.before.before.before.before.before.before.before.before.before.before.before.before.before.args.w.now c.before.before.before.before.before.before.before.before.before.before.before.before.before.before.before.before.before.before.before.before.before.before.before.before.before.before.requires.0), (counted-shares (as_trial 0 start.args.p.at) start.pre.0 (own-point start 0) counted.count-joints-in.ensures (places_long counted) (counts_long counted)).placed)
 
 same-length-6 : tie.Need-same-length-6
 same-length-6 c = search rules
@@ -119,7 +119,7 @@ returns-2 : tie.Need-returns-2
 returns-2 c number =
     let counted = c.before.before.before.before.before.before.before.before.before.before.before.before.before.before.before.before in
     let start = own counted in
-    judged-each _ start.pre.0 (own-point start number) counted.count-joints-in.ensures (places-long counted) (counts-long counted) _ (boxed c.before.before.before.before.before.before) _ c.before.before.before.if1.false c.enough.ensures
+    judged-each _ start.pre.0 (own-point start number) counted.count-joints-in.ensures (places_long counted) (counts_long counted) _ (boxed c.before.before.before.before.before.before) _ c.before.before.before.if1.false c.enough.ensures
 
 pub judge-spec : {M : Type 1} → statement M
 judge-spec =

@@ -5,19 +5,19 @@ use lib.Seq.{length-take-le}
 use borrow.Author.Rules.{rules}
 use borrow.Author.Tests.{not-true, not-false}
 use Rattle.hypervolume.specs.Sorted.{Small}
-use Rattle.words.proofs.Places.{point-of-trial}
-use Rattle.words.proofs.Passed.{coordinates-small}
+use Rattle.words.proofs.Places.{point_of_trial}
+use Rattle.words.proofs.Passed.{coordinates_small}
 use Rattle.insertion.proofs.inserting.Admitting.{admitted}
 use Rattle.insertion.proofs.inserting.Storing.{overruns, fits-box, storing}
-use Rattle.calls.proofs.Answers.{row-13-given, row-13-passed}
+use Rattle.calls.proofs.Answers.{row_13_given, row_13_passed}
 use Rattle.insertion.proofs.inserting.put_in.Statement.{statement}
 use Rattle.insertion.proofs.inserting.put_in.Tie as tie
 
 -- The point's coordinates are allowed, so they are small.
 own-small : (s : tie.Start) → Small s.args.p.at
 own-small s =
-    subst (λ q. Small q) (point-of-trial s.args.number s.args.p.at (search rules))
-    (coordinates-small _ (admitted s.args.w.now _ s.requires.0 s.requires.1).coordinates)
+    subst (λ q. Small q) (point_of_trial s.args.number s.args.p.at (search rules))
+    (coordinates_small _ (admitted s.args.w.now _ s.requires.0 s.requires.1).coordinates)
 
 judge-requires : tie.Need-judge-requires
 judge-requires c κs = (c.before.before.before.before.before.before.before.before.before.before.requires.0, own-small c.before.before.before.before.before.before.before.before.before.before, c.before.before.before.before.before.before.before.before.before.before.requires.2)
@@ -41,19 +41,19 @@ same-length-6 : tie.Need-same-length-6
 same-length-6 c = search rules
 
 returns : tie.Need-returns
-returns c = row-13-given _ _ _ (overruns (c.before.before.before.before.before.before.before.before.before.before.judge.ensures _) (not-true _ c.if1.true))
+returns c = row_13_given _ _ _ (overruns (c.before.before.before.before.before.before.before.before.before.before.judge.ensures _) (not-true _ c.if1.true))
 
 slice-reshare-prefix-store : tie.Need-slice-reshare-prefix-store
-slice-reshare-prefix-store c = omega (arith, (c.before.before.before.before.before.before.before.before.before.before.before.judge.ensures 0).few, c.before.before.before.before.before.before.before.before.before.before.before.judge.auto, c.before.before.before.before.before.before.before.before.before.before.before.before.before.before.before.before.before.before.before.before.before.before.requires.2.places-long)
+slice-reshare-prefix-store c = omega (arith, (c.before.before.before.before.before.before.before.before.before.before.before.judge.ensures 0).few, c.before.before.before.before.before.before.before.before.before.before.before.judge.auto, c.before.before.before.before.before.before.before.before.before.before.before.before.before.before.before.before.before.before.before.before.before.before.requires.2.places_long)
 
 slice-aggregate-store : tie.Need-slice-aggregate-store
-slice-aggregate-store c = sym (length-take-le _ _ (omega (arith, (c.before.before.before.before.before.before.before.before.before.before.before.before.judge.ensures 0).few, c.before.before.before.before.before.before.before.before.before.before.before.before.judge.auto, c.before.before.before.before.before.before.before.before.before.before.before.before.before.before.before.before.before.before.before.before.before.before.before.requires.2.places-long)))
+slice-aggregate-store c = sym (length-take-le _ _ (omega (arith, (c.before.before.before.before.before.before.before.before.before.before.before.before.judge.ensures 0).few, c.before.before.before.before.before.before.before.before.before.before.before.before.judge.auto, c.before.before.before.before.before.before.before.before.before.before.before.before.before.before.before.before.before.before.before.before.before.before.before.requires.2.places_long)))
 
 slice-reshare-prefix-store-2 : tie.Need-slice-reshare-prefix-store-2
-slice-reshare-prefix-store-2 c = omega (arith, (c.before.before.before.before.before.before.before.before.before.before.before.before.judge.ensures 0).few, c.before.before.before.before.before.before.before.before.before.before.before.before.judge.auto, c.before.before.before.before.before.before.before.before.before.before.before.before.before.before.before.before.before.before.before.before.before.before.before.requires.2.counts-long)
+slice-reshare-prefix-store-2 c = omega (arith, (c.before.before.before.before.before.before.before.before.before.before.before.before.judge.ensures 0).few, c.before.before.before.before.before.before.before.before.before.before.before.before.judge.auto, c.before.before.before.before.before.before.before.before.before.before.before.before.before.before.before.before.before.before.before.before.before.before.before.requires.2.counts_long)
 
 slice-aggregate-store-2 : tie.Need-slice-aggregate-store-2
-slice-aggregate-store-2 c = sym (length-take-le _ _ (omega (arith, (c.before.before.before.before.before.before.before.before.before.before.before.before.before.judge.ensures 0).few, c.before.before.before.before.before.before.before.before.before.before.before.before.before.judge.auto, c.before.before.before.before.before.before.before.before.before.before.before.before.before.before.before.before.before.before.before.before.before.before.before.before.requires.2.counts-long)))
+slice-aggregate-store-2 c = sym (length-take-le _ _ (omega (arith, (c.before.before.before.before.before.before.before.before.before.before.before.before.before.judge.ensures 0).few, c.before.before.before.before.before.before.before.before.before.before.before.before.before.judge.auto, c.before.before.before.before.before.before.before.before.before.before.before.before.before.before.before.before.before.before.before.before.before.before.before.before.requires.2.counts_long)))
 
 store-requires : tie.Need-store-requires
 store-requires c κs = storing (c.before.before.before.before.before.before.before.before.before.before.before.before.before.judge.ensures _) c.before.before.before.before.before.before.before.before.before.before.before.before.before.before.before.before.before.before.before.before.before.before.before.before.requires.0 (admitted c.before.before.before.before.before.before.before.before.before.before.before.before.before.before.before.before.before.before.before.before.before.before.before.before.args.w.now _ c.before.before.before.before.before.before.before.before.before.before.before.before.before.before.before.before.before.before.before.before.before.before.before.before.requires.0 c.before.before.before.before.before.before.before.before.before.before.before.before.before.before.before.before.before.before.before.before.before.before.before.before.requires.1).free (not-false _ c.before.before.before.if1.false)
@@ -77,7 +77,7 @@ same-length-12 : tie.Need-same-length-12
 same-length-12 c = search rules
 
 returns-2 : tie.Need-returns-2
-returns-2 c = row-13-passed _ _ _ _ (fits-box (c.before.before.before.before.before.before.before.before.before.before.before.before.before.before.before.before.judge.ensures _) (not-false _ c.before.before.before.before.before.before.if1.false)) c.before.before.store.ensures
+returns-2 c = row_13_passed _ _ _ _ (fits-box (c.before.before.before.before.before.before.before.before.before.before.before.before.before.before.before.before.judge.ensures _) (not-false _ c.before.before.before.before.before.before.if1.false)) c.before.before.store.ensures
 
 pub put-in-spec : {M : Type 1} → statement M
 put-in-spec =

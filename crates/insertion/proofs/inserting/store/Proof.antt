@@ -30,16 +30,16 @@ add-w : tie.Need-overflow-add-w
 add-w c = omega (arith, known c.before.before.before.before.before.before.before.before.before.before.before.before.before.before.before.args.w.now c.before.before.before.before.before.before.before.before.before.before.before.before.before.before.before.requires.passes)
 
 slice-write-w : tie.Need-slice-write-w
-slice-write-w c = omega (arith, known c.before.before.before.before.before.before.before.before.before.before.before.before.before.before.before.args.w.now c.before.before.before.before.before.before.before.before.before.before.before.before.before.before.before.requires.passes, c.before.before.before.before.before.before.lower-at.auto.0, c.before.before.enter-at.auto.0)
+slice-write-w c = omega (arith, known c.before.before.before.before.before.before.before.before.before.before.before.before.before.before.before.args.w.now c.before.before.before.before.before.before.before.before.before.before.before.before.before.before.before.requires.passes, c.before.before.before.before.before.before.lower-at.auto.0, c.before.before.enter_at.auto.0)
 
 slice-write-w-2 : tie.Need-slice-write-w-2
-slice-write-w-2 c = simp length-set (omega (arith, known c.before.before.before.before.before.before.before.before.before.before.before.before.before.before.before.args.w.now c.before.before.before.before.before.before.before.before.before.before.before.before.before.before.before.requires.passes, c.before.before.before.before.before.before.lower-at.auto.0, c.before.before.enter-at.auto.0))
+slice-write-w-2 c = simp length-set (omega (arith, known c.before.before.before.before.before.before.before.before.before.before.before.before.before.before.before.args.w.now c.before.before.before.before.before.before.before.before.before.before.before.before.before.before.before.requires.passes, c.before.before.before.before.before.before.lower-at.auto.0, c.before.before.enter_at.auto.0))
 
 same_length : tie.Need-same-length
-same_length c = simp length-set (omega (arith, c.before.before.before.before.before.before.lower-at.auto.0, c.before.before.enter-at.auto.0))
+same_length c = simp length-set (omega (arith, c.before.before.before.before.before.before.lower-at.auto.0, c.before.before.enter_at.auto.0))
 
 returns : tie.Need-returns
-returns c = insertion-stored _ _ _ _ _ _ _ _ _ c.before.before.before.before.before.before.before.before.before.before.before.before.before.before.before.requires c.before.before.before.before.before.before.before.before.rank.ensures c.before.before.before.before.before.before.lower-at.ensures c.before.before.enter-at.ensures refl
+returns c = insertion-stored _ _ _ _ _ _ _ _ _ c.before.before.before.before.before.before.before.before.before.before.before.before.before.before.before.requires c.before.before.before.before.before.before.before.before.rank.ensures c.before.before.before.before.before.before.lower-at.ensures c.before.before.enter_at.ensures refl
 
 pub store_spec : {M : Type 1} → statement M
 store_spec =

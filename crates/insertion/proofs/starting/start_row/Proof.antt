@@ -3,8 +3,8 @@ use mathlib.Core.Path.{sym, ◌∙◌}
 use native.Mathlib.Omega.{arith}
 use borrow.Author.Rules.{rules}
 use borrow.Author.Tests.{not-true, not-false}
-use Rattle.words.proofs.Passed.{shape-bounds}
-use Rattle.insertion.proofs.starting.Outcomes.{row-4, row-1, no_row}
+use Rattle.words.proofs.Passed.{shape_bounds}
+use Rattle.insertion.proofs.starting.Outcomes.{row_4, row_1, no_row}
 use Rattle.insertion.proofs.starting.start_row.Statement.{statement}
 use Rattle.insertion.proofs.starting.start_row.Tie as tie
 
@@ -12,19 +12,19 @@ shape-allowed-requires : tie.Need-shape-allowed-requires
 shape-allowed-requires c κs = search rules
 
 returns : tie.Need-returns
-returns c = row-4 _ _ _ c.before.shape-allowed.ensures (not-true _ c.if1.true)
+returns c = row_4 _ _ _ c.before.shape_allowed.ensures (not-true _ c.if1.true)
 
 mul-if2 : tie.Need-overflow-mul-if2
-mul-if2 c = omega (arith, shape-bounds _ (sym c.before.shape-allowed.ensures ∙ not-false _ c.if1.false))
+mul-if2 c = omega (arith, shape_bounds _ (sym c.before.shape_allowed.ensures ∙ not-false _ c.if1.false))
 
 add-if2 : tie.Need-overflow-add-if2
-add-if2 c = omega (arith, shape-bounds _ (sym c.before.shape-allowed.ensures ∙ not-false _ c.if1.false))
+add-if2 c = omega (arith, shape_bounds _ (sym c.before.shape_allowed.ensures ∙ not-false _ c.if1.false))
 
 returns-2 : tie.Need-returns-2
-returns-2 c = row-1 _ _ _ c.before.before.shape-allowed.ensures (not-false _ c.before.if1.false) c.if2.true
+returns-2 c = row_1 _ _ _ c.before.before.shape_allowed.ensures (not-false _ c.before.if1.false) c.if2.true
 
 returns-3 : tie.Need-returns-3
-returns-3 c = no_row _ _ _ c.before.before.shape-allowed.ensures (not-false _ c.before.if1.false) c.if2.false
+returns-3 c = no_row _ _ _ c.before.before.shape_allowed.ensures (not-false _ c.before.if1.false) c.if2.false
 
 pub start-row-spec : {M : Type 1} → statement M
 start-row-spec =

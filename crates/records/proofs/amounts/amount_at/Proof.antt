@@ -3,7 +3,7 @@ use Prim.Native.Nat.{◌-◌}
 use mathlib.Core.Path.{refl}
 use native.Mathlib.Omega.{arith}
 use lib.ListN.{length}
-use Rattle.slices.proofs.PlacedLoops.{Missed, missed-none, missed_more, missed-found, missed-end}
+use Rattle.slices.proofs.PlacedLoops.{Missed, missed_none, missed_more, missed_found, missed_end}
 use Rattle.records.proofs.amounts.amount_at.Statement.{statement}
 use Rattle.records.proofs.amounts.amount_at.Tie as tie
 
@@ -14,7 +14,7 @@ abbrev decreases-loop : tie.decreases-loop
 decreases-loop places counts place k₀ k = length places - k
 
 loop-holds : tie.Need-loop-init invariant-loop decreases-loop
-loop-holds c = missed-none
+loop-holds c = missed_none
 
 mul-if1 : tie.Need-overflow-mul-if1 invariant-loop decreases-loop
 mul-if1 c = omega arith
@@ -32,7 +32,7 @@ shared-slice-read-result : tie.Need-shared-slice-read-result invariant-loop decr
 shared-slice-read-result c = omega (arith, c.before.before.before.before.before.requires)
 
 returns : tie.Need-returns invariant-loop decreases-loop
-returns c n = missed-found c.before.before.before.loop-test.true c.before.if1.true refl
+returns c n = missed_found c.before.before.before.loop-test.true c.before.if1.true refl
 
 add-k : tie.Need-overflow-add-k invariant-loop decreases-loop
 add-k c = omega arith
@@ -44,7 +44,7 @@ loop-again : tie.Need-loop-preserved invariant-loop decreases-loop
 loop-again c = missed_more c.before.before.before.loop.invariant c.before.before.loop-test.true c.if1.false
 
 returns-2 : tie.Need-returns-2 invariant-loop decreases-loop
-returns-2 c n = missed-end c.before.loop.invariant c.loop-test.false
+returns-2 c n = missed_end c.before.loop.invariant c.loop-test.false
 
 pub amount-at-spec : {M : Type 1} → statement M
 amount-at-spec =

@@ -7,7 +7,7 @@ use native.Mathlib.Omega.{arith}
 use lib.ListN.{length, get_or}
 use lib.Dec.{ltb}
 use borrow.Author.Tests.{ltb-false}
-use Rattle.slices.proofs.PlacedLoops.{no-pair-here}
+use Rattle.slices.proofs.PlacedLoops.{no_pair_here}
 use Rattle.words.specs.Places.{rows_before}
 use Rattle.records.specs.Columns.{column}
 use Rattle.records.proofs.amounts.KeptWords.{Storing, storing-none, storing-inside, storing-here, storing-more, storing-end}
@@ -58,7 +58,7 @@ sub-w c =
     let held : List ℕ = column 4 (rows_before start.args.w.now start.args.n) in
     let p : ℕ = get_or start.args.places.now at-loop.loop.k 0 in
     let low : ltb (get_or held p 0) (get_or start.args.counts.now at-loop.loop.k 0) ≡ false =
-    no-pair-here (λ v m. ltb v m) held at-loop.loop.k at-loop.loop.invariant.placing.size start.requires.0.1 start.requires.1 l in
+    no_pair_here (λ v m. ltb v m) held at-loop.loop.k at-loop.loop.invariant.placing.size start.requires.0.1 start.requires.1 l in
     omega (arith, storing-here at-loop.loop.invariant l, ltb-false (get_or held p 0) _ low)
 
 mul-w-4 : tie.Need-overflow-mul-w-4 invariant-loop decreases-loop

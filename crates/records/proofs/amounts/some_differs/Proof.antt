@@ -5,7 +5,7 @@ use mathlib.Core.Bool.{not}
 use native.Mathlib.Omega.{arith}
 use lib.ListN.{length, get_or}
 use lib.Dec.{eqb}
-use Rattle.slices.proofs.PairLoops.{Seeking, seeking-none, seeking-end, differing-found, differing-more}
+use Rattle.slices.proofs.PairLoops.{Seeking, seeking_none, seeking_end, differing_found, differing_more}
 use Rattle.words.specs.Places.{rows_before}
 use Rattle.records.specs.Columns.{column}
 use Rattle.records.proofs.amounts.KeptWords.{kept-none, contribution-at}
@@ -19,7 +19,7 @@ abbrev decreases-loop : tie.decreases-loop
 decreases-loop w counts i₀ i = length counts - i
 
 loop-holds : tie.Need-loop-init invariant-loop decreases-loop
-loop-holds c = seeking-none (sym (kept-none c.args.w.now _ c.requires).many)
+loop-holds c = seeking_none (sym (kept-none c.args.w.now _ c.requires).many)
 
 -- the contribution whose turn it is
 here : (c : tie.At-loop invariant-loop decreases-loop) → c.loop.i < length c.before.args.counts.now → get_or c.before.args.w.now (12 + 5 * c.loop.i) 0 ≡ get_or (column 4 (rows_before c.before.args.w.now (length c.before.args.counts.now))) c.loop.i 0
@@ -47,7 +47,7 @@ returns : tie.Need-returns invariant-loop decreases-loop
 returns c =
     let at-loop = c.before.before.before.before in
     let l = c.before.before.before.loop-test.true in
-    differing-found at-loop.loop.invariant l (here at-loop l) c.if1.true
+    differing_found at-loop.loop.invariant l (here at-loop l) c.if1.true
 
 add-i : tie.Need-overflow-add-i invariant-loop decreases-loop
 add-i c = omega arith
@@ -59,10 +59,10 @@ loop-again : tie.Need-loop-preserved invariant-loop decreases-loop
 loop-again c =
     let at-loop = c.before.before.before.before in
     let l = c.before.before.before.loop-test.true in
-    differing-more at-loop.loop.invariant l (here at-loop l) c.if1.false
+    differing_more at-loop.loop.invariant l (here at-loop l) c.if1.false
 
 returns-2 : tie.Need-returns-2 invariant-loop decreases-loop
-returns-2 c = seeking-end c.before.loop.invariant (omega (arith, c.before.loop.invariant.pairs))
+returns-2 c = seeking_end c.before.loop.invariant (omega (arith, c.before.loop.invariant.pairs))
 
 pub some-differs-spec : {M : Type 1} → statement M
 some-differs-spec =

@@ -4,7 +4,7 @@ use native.Mathlib.Omega.{arith}
 use lib.Seq.{length-take-le}
 use Rattle.hypervolume.specs.Front.{front}
 use Rattle.calls.proofs.Known.{known}
-use Rattle.records.proofs.HeldPoints.{loaded-all, loaded-in-order}
+use Rattle.records.proofs.HeldPoints.{loaded_all, loaded_in_order}
 use borrow.Author.Rules.{rules}
 use Rattle.records.proofs.fronts.count_front.Statement.{statement}
 use Rattle.records.proofs.fronts.count_front.Tie as tie
@@ -25,10 +25,10 @@ slice-aggregate-front : tie.Need-slice-aggregate-front
 slice-aggregate-front c = sym (length-take-le _ _ (omega (arith, c.before.before.load-points.ensures.few)))
 
 front-requires : tie.Need-front-requires
-front-requires c κs = loaded-in-order c.before.before.before.before.before.before.requires refl c.before.before.load-points.ensures
+front-requires c κs = loaded_in_order c.before.before.before.before.before.before.requires refl c.before.before.load-points.ensures
 
 returns : tie.Need-returns
-returns c = c.front.ensures ∙ ap front (loaded-all refl c.before.before.before.load-points.ensures)
+returns c = c.front.ensures ∙ ap front (loaded_all refl c.before.before.before.load-points.ensures)
 
 pub count-front-spec : {M : Type 1} → statement M
 count-front-spec =

@@ -2,7 +2,7 @@
 use mathlib.Core.Path.{refl}
 use native.Mathlib.Omega.{arith}
 use Rattle.calls.proofs.Known.{known}
-use Rattle.records.proofs.strides.LoadedPoints.{loaded-but, loaded-all}
+use Rattle.records.proofs.strides.LoadedPoints.{loaded-but, loaded_all}
 use borrow.Author.Rules.{rules}
 use Rattle.records.proofs.strides.load_points.Statement.{statement}
 use Rattle.records.proofs.strides.load_points.Tie as tie
@@ -10,7 +10,7 @@ use Rattle.records.proofs.strides.load_points.Tie as tie
 shared-slice-read-n : tie.Need-shared-slice-read-n
 shared-slice-read-n c =
     let start = c.before.before in
-    omega (arith, (known start.args.w.now start.requires.0).records-long)
+    omega (arith, (known start.args.w.now start.requires.0).records_long)
 
 gather-points-requires : tie.Need-gather-points-requires
 gather-points-requires c κs =
@@ -53,7 +53,7 @@ same-length-2 c = search rules
 returns-2 : tie.Need-returns-2
 returns-2 c =
     let start = c.before.before.before.before.before.before in
-    loaded-all start.args.w.now _ _ _ _ start.requires.0 refl c.if1.false start.requires.1 c.before.before.gather-points.ensures
+    loaded_all start.args.w.now _ _ _ _ start.requires.0 refl c.if1.false start.requires.1 c.before.before.gather-points.ensures
 
 pub load-points-spec : {M : Type 1} → statement M
 load-points-spec =

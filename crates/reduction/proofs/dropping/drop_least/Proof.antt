@@ -1,6 +1,6 @@
 -- `drop_least` meets its contract: the columns are those of the archive after the drop.
 use native.Mathlib.Omega.{arith}
-use Rattle.reduction.proofs.dropping.Made.{room, room-less, recount-ready, gain-within, drop-made}
+use Rattle.reduction.proofs.dropping.Made.{room, room-less, recount_ready, gain-within, drop-made}
 use borrow.Author.Rules.{rules}
 use Rattle.reduction.proofs.dropping.drop_least.Statement.{statement}
 use Rattle.reduction.proofs.dropping.drop_least.Tie as tie
@@ -18,7 +18,7 @@ sub-m : tie.Need-overflow-sub-m
 sub-m c = search rules
 
 recount-requires : tie.Need-recount-requires
-recount-requires c κs = (recount-ready c.before.before.before.before.before.before.before.before.before.before.before.before.before.before.before.before.before.before.before.before.before.before.before.before.before.before.before.before.before.requires.0.inside c.before.before.before.before.before.before.before.before.before.before.before.before.before.before.before.before.before.before.before.before.before.before.before.before.before.before.before.before.before.requires.0.droppable c.before.before.before.before.before.before.before.before.before.before.before.before.before.before.before.before.before.before.before.note-least.ensures.0 c.before.before.before.before.before.before.before.before.before.before.before.before.before.before.before.before.before.before.before.note-least.ensures.1 c.before.before.before.before.before.before.before.before.before.before.before.close-gap.ensures c.before.before.before.before.before.before.before.before.before.before.before.before.before.before.before.point_at.ensures (room c.before.before.before.before.before.before.before.before.before.before.before.before.before.before.before.before.before.before.before.before.before.before.before.before.before.before.before.before.before.requires.0.inside.held) c.before.before.before.before.before.before.before.before.before.before.before.close-gap.auto.1.0 c.before.before.before.before.before.before.before.before.before.before.before.close-gap.auto.1.1.0, room-less c.before.before.before.before.before.before.before.before.before.before.before.before.before.before.before.before.before.before.before.before.before.before.before.before.before.before.before.before.before.requires.2)
+recount-requires c κs = (recount_ready c.before.before.before.before.before.before.before.before.before.before.before.before.before.before.before.before.before.before.before.before.before.before.before.before.before.before.before.before.before.requires.0.inside c.before.before.before.before.before.before.before.before.before.before.before.before.before.before.before.before.before.before.before.before.before.before.before.before.before.before.before.before.before.requires.0.droppable c.before.before.before.before.before.before.before.before.before.before.before.before.before.before.before.before.before.before.before.note-least.ensures.0 c.before.before.before.before.before.before.before.before.before.before.before.before.before.before.before.before.before.before.before.note-least.ensures.1 c.before.before.before.before.before.before.before.before.before.before.before.close-gap.ensures c.before.before.before.before.before.before.before.before.before.before.before.before.before.before.before.point_at.ensures (room c.before.before.before.before.before.before.before.before.before.before.before.before.before.before.before.before.before.before.before.before.before.before.before.before.before.before.before.before.before.requires.0.inside.held) c.before.before.before.before.before.before.before.before.before.before.before.close-gap.auto.1.0 c.before.before.before.before.before.before.before.before.before.before.before.close-gap.auto.1.1.0, room-less c.before.before.before.before.before.before.before.before.before.before.before.before.before.before.before.before.before.before.before.before.before.before.before.before.before.before.before.before.before.requires.2)
 
 sub-result : tie.Need-overflow-sub-result
 sub-result c = gain-within c.before.before.before.before.before.before.before.before.before.before.before.before.before.before.before.before.before.before.before.before.before.before.before.before.before.before.before.before.before.before.before.before.before.before.before.before.before.before.before.requires.0.inside c.before.before.before.before.before.before.before.before.before.before.before.before.before.before.before.before.before.before.before.before.before.before.before.before.before.before.before.before.before.before.before.before.before.before.before.before.before.before.before.requires.0.droppable c.before.before.before.before.before.before.before.before.before.before.before.before.before.before.before.before.before.before.before.before.before.before.before.before.before.before.before.before.before.note-least.ensures.0 c.before.before.before.before.before.before.before.before.before.before.before.before.before.before.before.before.before.before.before.before.before.before.before.before.before.before.before.before.before.note-least.ensures.1 c.before.before.before.before.before.before.before.before.before.before.before.before.before.before.before.before.before.before.before.before.before.close-gap.ensures c.before.before.before.before.before.before.before.before.before.before.before.before.before.before.before.before.before.before.before.before.before.before.before.before.before.point_at.ensures _ c.before.before.before.before.before.before.before.before.before.recount.ensures.0

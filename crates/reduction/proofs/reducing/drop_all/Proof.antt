@@ -15,22 +15,22 @@ decreases-loop numbers₀ points₀ kept₀ n total reference rule drops log₀ 
     drops - i
 
 loop-holds : tie.Need-loop-init invariant-loop decreases-loop
-loop-holds c = drops-none _ _ _ _ _ _ _ _ _ _ _ _ _ (record { corners-long = refl; places-long = refl; line-long = refl; counts-long = refl })
+loop-holds c = drops-none _ _ _ _ _ _ _ _ _ _ _ _ _ (record { corners_long = refl; places_long = refl; line_long = refl; counts_long = refl })
 
 sub-drop-least : tie.Need-overflow-sub-drop-least invariant-loop decreases-loop
 sub-drop-least c = omega (arith, c.before.before.before.loop-test.true, c.before.before.before.before.before.before.before.before.requires.2)
 
 slice-aggregate-drop-least : tie.Need-slice-aggregate-drop-least invariant-loop decreases-loop
-slice-aggregate-drop-least c = sym c.before.before.before.before.before.loop.invariant.scratch.corners-long
+slice-aggregate-drop-least c = sym c.before.before.before.before.before.loop.invariant.scratch.corners_long
 
 slice-aggregate-drop-least-2 : tie.Need-slice-aggregate-drop-least-2 invariant-loop decreases-loop
-slice-aggregate-drop-least-2 c = sym c.before.before.before.before.before.before.loop.invariant.scratch.places-long
+slice-aggregate-drop-least-2 c = sym c.before.before.before.before.before.before.loop.invariant.scratch.places_long
 
 slice-aggregate-drop-least-3 : tie.Need-slice-aggregate-drop-least-3 invariant-loop decreases-loop
-slice-aggregate-drop-least-3 c = sym c.before.before.before.before.before.before.before.loop.invariant.scratch.line-long
+slice-aggregate-drop-least-3 c = sym c.before.before.before.before.before.before.before.loop.invariant.scratch.line_long
 
 slice-aggregate-drop-least-4 : tie.Need-slice-aggregate-drop-least-4 invariant-loop decreases-loop
-slice-aggregate-drop-least-4 c = sym c.before.before.before.before.before.before.before.before.loop.invariant.scratch.counts-long
+slice-aggregate-drop-least-4 c = sym c.before.before.before.before.before.before.before.before.loop.invariant.scratch.counts_long
 
 mul-drop-least : tie.Need-overflow-mul-drop-least invariant-loop decreases-loop
 mul-drop-least c = omega (arith, c.before.before.before.before.before.before.before.before.loop-test.true, c.before.before.before.before.before.before.before.before.before.before.before.before.before.requires.2, c.before.before.before.before.before.before.before.before.before.before.before.before.before.requires.1)

@@ -31,18 +31,18 @@ same-length-2 c = search rules
 
 returns-2 : tie.Need-returns-2
 returns-2 c =
-    reduce-turned c.before.before.before.before.before.before.before.before.before.args.w.now _ _ _ _ _ (sym c.before.before.before.before.before.refusal.ensures ∙ c.before.before.before.before.if1.false) c.before.before.reduce-rows.ensures
+    reduce-turned c.before.before.before.before.before.before.before.before.before.args.w.now _ _ _ _ _ (sym c.before.before.before.before.before.refusal.ensures ∙ c.before.before.before.before.if1.false) c.before.before.reduce_rows.ensures
     c.before.if2.true c.refused2.ensures
 
 slice-read-drops : tie.Need-slice-read-drops
 slice-read-drops c = omega (arith, known c.before.before.before.before.before.before.before.before.before.args.w.now (sym c.before.before.before.before.before.refusal.ensures ∙ c.before.before.before.before.if1.false))
 
 sub-drops : tie.Need-overflow-sub-drops
-sub-drops c = (reducible c.before.before.before.before.before.before.before.before.before.args.w.now _ _ _ (sym c.before.before.reduce-rows.ensures ∙ c.before.if2.false)).above
+sub-drops c = (reducible c.before.before.before.before.before.before.before.before.before.args.w.now _ _ _ (sym c.before.before.reduce_rows.ensures ∙ c.before.if2.false)).above
 
 reduce-by-requires : tie.Need-reduce-by-requires
 reduce-by-requires c κs =
-    let able = reducible c.before.before.before.before.before.before.before.before.before.before.before.args.w.now _ _ _ (sym c.before.before.before.before.reduce-rows.ensures ∙ c.before.before.before.if2.false) in
+    let able = reducible c.before.before.before.before.before.before.before.before.before.before.before.args.w.now _ _ _ (sym c.before.before.before.before.reduce_rows.ensures ∙ c.before.before.before.if2.false) in
     ((sym c.before.before.before.before.before.before.before.refusal.ensures ∙ c.before.before.before.before.before.before.if1.false), able.counted, omega (arith, able.above), able.room)
 
 done-requires : tie.Need-done-requires
@@ -57,7 +57,7 @@ same-length-4 c = search rules
 returns-3 : tie.Need-returns-3
 returns-3 c =
     reduce-dropped c.before.before.before.before.before.before.before.before.before.before.before.before.before.before.before.before.before.args.w.now _ _ _ _ _ _ _ (sym c.before.before.before.before.before.before.before.before.before.before.before.before.before.refusal.ensures ∙ c.before.before.before.before.before.before.before.before.before.before.before.before.if1.false)
-    (sym c.before.before.before.before.before.before.before.before.before.before.reduce-rows.ensures ∙ c.before.before.before.before.before.before.before.before.before.if2.false) refl c.before.before.before.before.before.reduce-by.ensures c.done.ensures
+    (sym c.before.before.before.before.before.before.before.before.before.before.reduce_rows.ensures ∙ c.before.before.before.before.before.before.before.before.before.if2.false) refl c.before.before.before.before.before.reduce_by.ensures c.done.ensures
 
 pub reduce-spec : {M : Type 1} → statement M
 reduce-spec =

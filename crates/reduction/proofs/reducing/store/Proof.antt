@@ -8,7 +8,7 @@ use Rattle.reduction.proofs.reducing.store.Statement.{statement}
 use Rattle.reduction.proofs.reducing.store.Tie as tie
 
 put-records-requires : tie.Need-put-records-requires
-put-records-requires c κs = (records-room c.before.before.before.before.requires, c.before.before.before.before.requires.numbers-room, c.before.before.before.before.requires.points-room, c.before.before.before.before.requires.kept-room)
+put-records-requires c κs = (records-room c.before.before.before.before.requires, c.before.before.before.before.requires.numbers_room, c.before.before.before.before.requires.points_room, c.before.before.before.before.requires.kept_room)
 
 mul-clear : tie.Need-overflow-mul-clear
 mul-clear c = search rules

@@ -9,16 +9,16 @@ use Rattle.hypervolume.specs.Cells.{box}
 use Rattle.hypervolume.specs.Sorted.{Small}
 use Rattle.slices.specs.Spread.{Sparse}
 use Rattle.slices.specs.Amounts.{Placed}
-use Rattle.slices.proofs.Placed.{sparse-placed}
+use Rattle.slices.proofs.Placed.{sparse_placed}
 use Rattle.words.specs.Archive.{point}
 use Rattle.words.specs.Layout.{read, word}
 use Rattle.words.specs.Places.{row_at}
-use Rattle.words.proofs.Passed.{reference-small}
+use Rattle.words.proofs.Passed.{reference_small}
 use Rattle.words.proofs.Places.{held_small, point_at}
-use Rattle.calls.specs.Calls.{box_of, removal-loss}
+use Rattle.calls.specs.Calls.{box_of, removal_loss}
 use Rattle.calls.proofs.Known.{known}
-use Rattle.ask.proofs.CountedAmounts.{counted-few}
-use Rattle.removal.specs.Removing.{number_at, removal-shares}
+use Rattle.ask.proofs.CountedAmounts.{counted_few}
+use Rattle.removal.specs.Removing.{number_at, removal_shares}
 use Rattle.removal.proofs.removing.Raising.{loss-counted, shares-counted, low-asked, limit-fits, raised-over, raised-judged}
 use borrow.Author.Rules.{rules}
 use Rattle.removal.proofs.removing.raised.Statement.{statement}
@@ -30,20 +30,20 @@ read-point c = point_at c.before.before.before.before.before.args.w.now c.before
 
 -- What was counted: how many places, the loss, and the joint counts.
 few : (c : tie.After-count-joints) → c.count-joints.result.moved ≤ 512
-few c = counted-few c.before.before.before.before.before.before.before.before.requires.0 c.count-joints.ensures
+few c = counted_few c.before.before.before.before.before.before.before.before.requires.0 c.count-joints.ensures
 
-lost : (c : tie.After-count-joints) → c.count-joints.result.gain ≡ removal-loss (read c.before.before.before.before.before.before.before.before.args.w.now) (number_at c.before.before.before.before.before.before.before.before.args.w.now c.before.before.before.before.before.before.before.before.args.k)
+lost : (c : tie.After-count-joints) → c.count-joints.result.gain ≡ removal_loss (read c.before.before.before.before.before.before.before.before.args.w.now) (number_at c.before.before.before.before.before.before.before.before.args.w.now c.before.before.before.before.before.before.before.before.args.k)
 lost c = loss-counted c.before.before.before.before.before.before.before.before.requires.0 c.before.before.before.before.before.before.before.before.requires.1 (read-point c.before.before.before) c.count-joints.ensures
 
-each : (c : tie.After-count-joints) → Sparse (word c.before.before.before.before.before.before.before.before.args.w.now 0 - 1) (removal-shares c.before.before.before.before.before.before.before.before.args.w.now c.before.before.before.before.before.before.before.before.args.k) c.count-joints.new.1.1.1.0 c.count-joints.new.1.1.1.1.0 c.count-joints.result.moved
+each : (c : tie.After-count-joints) → Sparse (word c.before.before.before.before.before.before.before.before.args.w.now 0 - 1) (removal_shares c.before.before.before.before.before.before.before.before.args.w.now c.before.before.before.before.before.before.before.before.args.k) c.count-joints.new.1.1.1.0 c.count-joints.new.1.1.1.1.0 c.count-joints.result.moved
 each c = shares-counted c.before.before.before.before.before.before.before.before.requires.0 c.before.before.before.before.before.before.before.before.requires.1 (read-point c.before.before.before) c.count-joints.ensures
 
 placed : (c : tie.After-count-joints) → Placed (word c.before.before.before.before.before.before.before.before.args.w.now 0 - 1) (take c.count-joints.result.moved c.count-joints.new.1.1.1.0) (take c.count-joints.result.moved c.count-joints.new.1.1.1.1.0)
-placed c = sparse-placed (each c) (omega (arith, few c, c.count-joints.auto, c.before.before.before.before.before.before.before.before.requires.2)) (omega (arith, few c, c.count-joints.auto, c.before.before.before.before.before.before.before.before.requires.3))
+placed c = sparse_placed (each c) (omega (arith, few c, c.count-joints.auto, c.before.before.before.before.before.before.before.before.requires.2)) (omega (arith, few c, c.count-joints.auto, c.before.before.before.before.before.before.before.before.requires.3))
 
 boxed : (c : tie.After-box-of) → c.box_of.result ≡ box_of (read c.before.before.before.before.before.before.before.before.before.before.before.before.before.before.before.before.before.before.before.args.w.now)
 unfolding read
-boxed c = c.box_of.ensures ∙ ap box c.before.reference-of.ensures
+boxed c = c.box_of.ensures ∙ ap box c.before.reference_of.ensures
 
 shared-slice-read-n : tie.Need-shared-slice-read-n
 shared-slice-read-n c = omega (arith, known c.before.before.before.before.args.w.now c.before.before.before.before.requires.0)
@@ -86,14 +86,14 @@ reference-of-requires : tie.Need-reference-of-requires
 reference-of-requires c κs = c.before.before.before.before.before.before.before.before.before.before.before.before.before.before.before.before.before.requires.0
 
 box-of-requires : tie.Need-box-of-requires
-box-of-requires c κs = reference-small _ _ (known c.before.before.before.before.before.before.before.before.before.before.before.before.before.before.before.before.before.before.args.w.now c.before.before.before.before.before.before.before.before.before.before.before.before.before.before.before.before.before.before.requires.0).shaped c.reference-of.ensures
+box-of-requires c κs = reference_small _ _ (known c.before.before.before.before.before.before.before.before.before.before.before.before.before.before.before.before.before.before.args.w.now c.before.before.before.before.before.before.before.before.before.before.before.before.before.before.before.before.before.before.requires.0).shaped c.reference_of.ensures
 
 within-requires : tie.Need-within-requires
 within-requires c κs =
     let start = c.before.before.before.before.before.before.before.before.before.before.before.before.before.before.before.before.before.before.before in
     let counted = c.before.before.before.before.before.before.before.before.before.before.before in (
-      ((known start.args.w.now start.requires.0).records-long, start.requires.1, placed counted, limit-fits start.args.w.now _ start.requires.0 (boxed c)),
-      low-asked start.args.w.now _ _ start.requires.0 (boxed c) (placed counted) (sym (each counted).is-spread),
+      ((known start.args.w.now start.requires.0).records_long, start.requires.1, placed counted, limit-fits start.args.w.now _ start.requires.0 (boxed c)),
+      low-asked start.args.w.now _ _ start.requires.0 (boxed c) (placed counted) (sym (each counted).is_spread),
     )
 
 same-length-3 : tie.Need-same-length-3

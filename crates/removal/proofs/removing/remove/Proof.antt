@@ -17,7 +17,7 @@ returns : tie.Need-returns
 returns c = remove-refused _ _ _ c.before.refusal.ensures c.if1.true
 
 find-requires : tie.Need-find-requires
-find-requires c κs = (known c.before.before.before.before.before.args.w.now (sym c.before.before.refusal.ensures ∙ c.before.if1.false)).records-long
+find-requires c κs = (known c.before.before.before.before.before.args.w.now (sym c.before.before.refusal.ensures ∙ c.before.if1.false)).records_long
 
 slice-read-if2 : tie.Need-slice-read-if2
 slice-read-if2 c = omega (arith, known c.before.before.before.before.before.before.before.args.w.now (sym c.before.before.before.before.refusal.ensures ∙ c.before.before.before.if1.false))

@@ -5,7 +5,7 @@ use native.Mathlib.Omega.{arith}
 use lib.Seq.{length-take-le}
 use borrow.Author.Rules.{rules}
 use borrow.Author.Tests.{not-true, not-false}
-use Rattle.calls.proofs.Answers.{row-13-given, row-13-passed}
+use Rattle.calls.proofs.Answers.{row_13_given, row_13_passed}
 use Rattle.removal.proofs.removing.Storing.{overruns, fits-box, places-few, striking, removal-passes, removal-renewed}
 use Rattle.removal.proofs.removing.take_out.Statement.{statement}
 use Rattle.removal.proofs.removing.take_out.Tie as tie
@@ -27,7 +27,7 @@ same_length : tie.Need-same-length
 same_length c = search rules
 
 returns : tie.Need-returns
-returns c = row-13-given _ _ _ (overruns c.before.before.before.before.raised.ensures (not-true _ c.if1.true))
+returns c = row_13_given _ _ _ (overruns c.before.before.before.before.raised.ensures (not-true _ c.if1.true))
 
 array-share-prefix-places : tie.Need-array-share-prefix-places
 array-share-prefix-places c = omega (arith, few c.before.before.before.before.before, c.before.before.before.before.before.raised.auto)
@@ -51,7 +51,7 @@ same-length-2 : tie.Need-same-length-2
 same-length-2 c = search rules
 
 returns-2 : tie.Need-returns-2
-returns-2 c = row-13-passed _ _ _ _ (fits-box c.before.before.before.before.before.before.before.before.before.before.before.before.before.before.raised.ensures (not-false _ c.before.before.before.before.before.before.before.before.before.before.if1.false)) (removal-renewed _ _ _ c.before.before.before.before.before.before.before.before.before.before.before.before.before.before.before.before.before.before.before.requires.0 c.before.before.before.before.before.before.before.before.before.before.before.before.before.before.before.before.before.before.before.requires.1 (fits-box c.before.before.before.before.before.before.before.before.before.before.before.before.before.before.raised.ensures (not-false _ c.before.before.before.before.before.before.before.before.before.before.if1.false)) c.before.before.before.before.before.before.store.ensures _ c.before.before.renew.ensures)
+returns-2 c = row_13_passed _ _ _ _ (fits-box c.before.before.before.before.before.before.before.before.before.before.before.before.before.before.raised.ensures (not-false _ c.before.before.before.before.before.before.before.before.before.before.if1.false)) (removal-renewed _ _ _ c.before.before.before.before.before.before.before.before.before.before.before.before.before.before.before.before.before.before.before.requires.0 c.before.before.before.before.before.before.before.before.before.before.before.before.before.before.before.before.before.before.before.requires.1 (fits-box c.before.before.before.before.before.before.before.before.before.before.before.before.before.before.raised.ensures (not-false _ c.before.before.before.before.before.before.before.before.before.before.if1.false)) c.before.before.before.before.before.before.store.ensures _ c.before.before.renew.ensures)
 
 pub take-out-spec : {M : Type 1} → statement M
 take-out-spec =

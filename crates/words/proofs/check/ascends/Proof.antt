@@ -1,7 +1,7 @@
 -- `ascends` meets its contract. The invariant: the numbers passed are equal, so those left decide.
 use Prim.Native.Nat.{◌-◌}
 use borrow.Author.Rules.{rules}
-use Rattle.words.proofs.check.AscendsLaws.{Level, level-none, level-less, level-more, level-same, level-end}
+use Rattle.words.proofs.check.AscendsLaws.{Level, level-none, level-less, level_more, level-same, level-end}
 use Rattle.words.proofs.check.ascends.Statement.{statement}
 use Rattle.words.proofs.check.ascends.Tie as tie
 
@@ -42,7 +42,7 @@ array-read-if2-2 : tie.Need-array-read-if2-2 invariant-loop decreases-loop
 array-read-if2-2 c = search rules
 
 returns-2 : tie.Need-returns-2 invariant-loop decreases-loop
-returns-2 c = level-more c.before.before.before.loop.invariant c.before.before.loop-test.true c.if2.true
+returns-2 c = level_more c.before.before.before.loop.invariant c.before.before.loop-test.true c.if2.true
 
 add-i : tie.Need-overflow-add-i invariant-loop decreases-loop
 add-i c = search rules

@@ -1,6 +1,6 @@
 -- `coordinates_allowed` meets its contract.
 use borrow.Author.Rules.{rules}
-use Rattle.words.specs.Format.{within, coordinates-allowed}
+use Rattle.words.specs.Format.{within, coordinates_allowed}
 use Rattle.words.proofs.Passed.{each_three}
 use Rattle.words.proofs.check.coordinates_allowed.Statement.{statement}
 use Rattle.words.proofs.check.coordinates_allowed.Tie as tie
@@ -21,7 +21,7 @@ both-requires-2 : tie.Need-both-requires-2
 both-requires-2 c κs = search rules
 
 returns : tie.Need-returns
-unfolding coordinates-allowed
+unfolding coordinates_allowed
 returns c = cc (each_three (within 0 1048576) _ _ _)
 
 pub coordinates-allowed-spec : {M : Type 1} → statement M

@@ -7,7 +7,7 @@ use native.Mathlib.Omega.{arith}
 use borrow.Author.Rules.{rules}
 use Rattle.words.specs.Archive.{Row, before}
 use Rattle.words.specs.Places.{as_row, row_at, follows}
-use Rattle.words.proofs.SoundRows.{before-keys}
+use Rattle.words.proofs.SoundRows.{before_keys}
 use Rattle.words.proofs.check.follows.Statement.{statement}
 use Rattle.words.proofs.check.follows.Tie as tie
 
@@ -43,7 +43,7 @@ ascends-requires : tie.Need-ascends-requires
 ascends-requires c κs = search rules
 
 returns-2 : tie.Need-returns-2
-returns-2 c = follows-behind _ _ (as_row c.before.before.before.before.row_at.result) (as_row c.before.before.row-at2.result) _ c.before.before.before.before.before.if1.false c.before.before.before.before.row_at.ensures c.before.before.row-at2.ensures (before-keys _ _ c.before.before.before.key.ensures c.before.key2.ensures c.ascends.ensures)
+returns-2 c = follows-behind _ _ (as_row c.before.before.before.before.row_at.result) (as_row c.before.before.row-at2.result) _ c.before.before.before.before.before.if1.false c.before.before.before.before.row_at.ensures c.before.before.row-at2.ensures (before_keys _ _ c.before.before.before.key.ensures c.before.key2.ensures c.ascends.ensures)
 
 pub follows-spec : {M : Type 1} → statement M
 follows-spec =

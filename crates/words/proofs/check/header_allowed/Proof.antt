@@ -3,8 +3,8 @@ use mathlib.Core.Path.{◌∙◌, sym}
 use borrow.Author.Rules.{rules}
 use borrow.Author.Tests.{not-false, not-true}
 use Rattle.slices.specs.Choices.{both}
-use Rattle.words.specs.Format.{header-allowed}
-use Rattle.words.proofs.Passed.{reference-small}
+use Rattle.words.specs.Format.{header_allowed}
+use Rattle.words.proofs.Passed.{reference_small}
 use Rattle.words.proofs.check.header_allowed.Statement.{statement}
 use Rattle.words.proofs.check.header_allowed.Tie as tie
 
@@ -15,14 +15,14 @@ shape-allowed-requires : tie.Need-shape-allowed-requires
 shape-allowed-requires c κs = search rules
 
 returns : tie.Need-returns
-unfolding header-allowed both
-returns c = rw (← c.before.before.shape_of.ensures, sym c.before.shape-allowed.ensures ∙ not-true _ c.if1.true)
+unfolding header_allowed both
+returns c = rw (← c.before.before.shape_of.ensures, sym c.before.shape_allowed.ensures ∙ not-true _ c.if1.true)
 
 reference-point-requires : tie.Need-reference-point-requires
-reference-point-requires c κs = sym c.before.shape-allowed.ensures ∙ not-false _ c.if1.false
+reference-point-requires c κs = sym c.before.shape_allowed.ensures ∙ not-false _ c.if1.false
 
 box-of-requires : tie.Need-box-of-requires
-box-of-requires c κs = reference-small _ _ (sym c.before.before.shape-allowed.ensures ∙ not-false _ c.before.if1.false) c.reference-point.ensures
+box-of-requires c κs = reference_small _ _ (sym c.before.before.shape_allowed.ensures ∙ not-false _ c.before.if1.false) c.reference-point.ensures
 
 shared-slice-read-both : tie.Need-shared-slice-read-both
 shared-slice-read-both c = search rules
@@ -52,10 +52,10 @@ both-requires-3 : tie.Need-both-requires-3
 both-requires-3 c κs = search rules
 
 returns-2 : tie.Need-returns-2
-unfolding header-allowed both
+unfolding header_allowed both
 returns-2 c =
     let d = c.before.before.before.before.before.before.before.before.before in
-    rw (← d.before.before.before.before.shape_of.ensures, sym d.before.before.before.shape-allowed.ensures ∙ not-false _ d.before.before.if1.false, ← d.before.reference-point.ensures, ← d.box_of.ensures)
+    rw (← d.before.before.before.before.shape_of.ensures, sym d.before.before.before.shape_allowed.ensures ∙ not-false _ d.before.before.if1.false, ← d.before.reference-point.ensures, ← d.box_of.ensures)
     cc
 
 pub header-allowed-spec : {M : Type 1} → statement M

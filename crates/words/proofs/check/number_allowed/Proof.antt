@@ -1,6 +1,6 @@
 -- `number_allowed` meets its contract.
 use borrow.Author.Rules.{rules}
-use Rattle.words.specs.Format.{number-allowed}
+use Rattle.words.specs.Format.{number_allowed}
 use Rattle.words.proofs.check.number_allowed.Statement.{statement}
 use Rattle.words.proofs.check.number_allowed.Tie as tie
 
@@ -8,7 +8,7 @@ within-requires : tie.Need-within-requires
 within-requires c κs = search rules
 
 returns : tie.Need-returns
-unfolding number-allowed
+unfolding number_allowed
 returns c = cc
 
 pub number-allowed-spec : {M : Type 1} → statement M

@@ -1,6 +1,6 @@
 -- `row_allowed` meets its contract.
 use borrow.Author.Rules.{rules}
-use Rattle.words.specs.Format.{row-allowed}
+use Rattle.words.specs.Format.{row_allowed}
 use Rattle.words.proofs.check.row_allowed.Statement.{statement}
 use Rattle.words.proofs.check.row_allowed.Tie as tie
 
@@ -17,7 +17,7 @@ both-requires-2 : tie.Need-both-requires-2
 both-requires-2 c κs = search rules
 
 returns : tie.Need-returns
-unfolding row-allowed
+unfolding row_allowed
 returns c = cc
 
 pub row-allowed-spec : {M : Type 1} → statement M

@@ -5,8 +5,8 @@ use mathlib.Core.Path.{◌∙◌, ap, refl, sym}
 use native.Mathlib.Omega.{arith}
 use Rattle.hypervolume.specs.Cells.{box}
 use Rattle.words.specs.Archive.{reference}
-use Rattle.words.specs.Format.{shape-allowed}
-use Rattle.words.proofs.Passed.{header-facts, reference-small}
+use Rattle.words.specs.Format.{shape_allowed}
+use Rattle.words.proofs.Passed.{header_facts, reference_small}
 use Rattle.words.proofs.check.RowsAllowed.{Checked, checked-none, checked-more, checked-place, checked-stop, checked-end}
 use Rattle.words.proofs.check.rows_allowed.Statement.{statement}
 use Rattle.words.proofs.check.rows_allowed.Tie as tie
@@ -18,16 +18,16 @@ abbrev decreases-loop : tie.decreases-loop
 decreases-loop w cells n table₀ i₀ table i = n - i
 
 shape-of-requires : tie.Need-shape-of-requires invariant-loop decreases-loop
-shape-of-requires c κs = let facts = header-facts _ c.before.requires in omega arith
+shape-of-requires c κs = let facts = header_facts _ c.before.requires in omega arith
 
 reference-point-requires : tie.Need-reference-point-requires invariant-loop decreases-loop
-reference-point-requires c κs = ap shape-allowed c.shape_of.ensures ∙ (header-facts _ c.before.before.requires).shaped
+reference-point-requires c κs = ap shape_allowed c.shape_of.ensures ∙ (header_facts _ c.before.before.requires).shaped
 
 box-of-requires : tie.Need-box-of-requires invariant-loop decreases-loop
-box-of-requires c κs = reference-small _ _ (header-facts _ c.before.before.before.requires).shaped (c.reference-point.ensures ∙ ap reference c.before.shape_of.ensures)
+box-of-requires c κs = reference_small _ _ (header_facts _ c.before.before.before.requires).shaped (c.reference-point.ensures ∙ ap reference c.before.shape_of.ensures)
 
 shared-slice-read-n : tie.Need-shared-slice-read-n invariant-loop decreases-loop
-shared-slice-read-n c = let facts = header-facts _ c.before.before.before.before.before.requires in omega arith
+shared-slice-read-n c = let facts = header_facts _ c.before.before.before.before.before.requires in omega arith
 
 loop-holds : tie.Need-loop-init invariant-loop decreases-loop
 loop-holds c = checked-none _ _ _ c.before.before.before.before.before.requires (c.before.box_of.ensures ∙ ap box (c.before.before.reference-point.ensures ∙ ap reference c.before.before.before.shape_of.ensures)) refl

@@ -1,6 +1,6 @@
 -- `shape_allowed` meets its contract.
 use borrow.Author.Rules.{rules}
-use Rattle.words.specs.Format.{within, shape-allowed}
+use Rattle.words.specs.Format.{within, shape_allowed}
 use Rattle.words.proofs.Passed.{each_three}
 use Rattle.words.proofs.check.shape_allowed.Statement.{statement}
 use Rattle.words.proofs.check.shape_allowed.Tie as tie
@@ -27,7 +27,7 @@ both-requires-3 : tie.Need-both-requires-3
 both-requires-3 c κs = search rules
 
 returns : tie.Need-returns
-unfolding shape-allowed
+unfolding shape_allowed
 returns c = cc (each_three (within 1 1048576) _ _ _)
 
 pub shape-allowed-spec : {M : Type 1} → statement M

@@ -5,15 +5,15 @@ use mathlib.Core.List.{List}
 use native.Mathlib.Omega.{arith}
 use lib.ListN.{get_or}
 use Rattle.words.specs.Archive.{Row, point}
-use Rattle.words.specs.Format.{archive-rows}
+use Rattle.words.specs.Format.{archive_rows}
 use Rattle.words.specs.Layout.{word}
-use Rattle.words.specs.Places.{as-trial, row_at}
+use Rattle.words.specs.Places.{as_trial, row_at}
 use Rattle.words.proofs.Passed.{passed}
 use Rattle.words.proofs.Places.{held_small}
 use Rattle.words.proofs.rows.record_at.Statement.{statement}
 use Rattle.words.proofs.rows.record_at.Tie as tie
 
-small-axis : (w : List ℕ) (i : ℕ) (r : Row) → archive-rows w 0 ≡ 0 → i < word w 0 → r ≡ row_at w i → (axis : ℕ) → get_or (point r.trial) axis 0 ≤ 1048576
+small-axis : (w : List ℕ) (i : ℕ) (r : Row) → archive_rows w 0 ≡ 0 → i < word w 0 → r ≡ row_at w i → (axis : ℕ) → get_or (point r.trial) axis 0 ≤ 1048576
 small-axis w i r p l e axis = subst (λ (s : Row). get_or (point s.trial) axis 0 ≤ 1048576) (sym e) (held_small w i p l axis)
 
 row-at-requires : tie.Need-row-at-requires
@@ -26,7 +26,7 @@ new-requires c κs =
 
 returns : tie.Need-returns
 returns c =
-    ap (λ p. record { trial = as-trial c.before.row_at.result.number p; kept = c.before.row_at.result.kept }) c.new.ensures ∙ c.before.row_at.ensures
+    ap (λ p. record { trial = as_trial c.before.row_at.result.number p; kept = c.before.row_at.result.kept }) c.new.ensures ∙ c.before.row_at.ensures
 
 pub record-at-spec : {M : Type 1} → statement M
 record-at-spec = tie.close (tie.spec row-at-requires new-requires returns)

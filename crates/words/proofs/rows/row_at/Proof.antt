@@ -1,6 +1,6 @@
 -- `row_at` meets its contract.
 use borrow.Author.Rules.{rules}
-use Rattle.words.proofs.Places.{row-at-words}
+use Rattle.words.proofs.Places.{row_at_words}
 use Rattle.words.proofs.rows.row_at.Statement.{statement}
 use Rattle.words.proofs.rows.row_at.Tie as tie
 
@@ -53,7 +53,7 @@ shared-slice-read-t22 : tie.Need-shared-slice-read-t22
 shared-slice-read-t22 c = search rules
 
 returns : tie.Need-returns
-returns c = row-at-words _ _
+returns c = row_at_words _ _
 
 pub row-at-spec : {M : Type 1} → statement M
 row-at-spec =

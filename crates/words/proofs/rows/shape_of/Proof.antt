@@ -1,7 +1,7 @@
 -- `shape_of` meets its contract.
 use mathlib.Core.Path.{refl}
 use borrow.Author.Rules.{rules}
-use Rattle.words.specs.Layout.{read-shape}
+use Rattle.words.specs.Layout.{read_shape}
 use Rattle.words.proofs.rows.shape_of.Statement.{statement}
 use Rattle.words.proofs.rows.shape_of.Tie as tie
 
@@ -18,7 +18,7 @@ shared-slice-read-t9 : tie.Need-shared-slice-read-t9
 shared-slice-read-t9 c = search rules
 
 returns : tie.Need-returns
-unfolding read-shape
+unfolding read_shape
 returns c = refl
 
 pub shape-of-spec : {M : Type 1} → statement M
