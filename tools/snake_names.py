@@ -5,7 +5,7 @@ usage: python3 tools/snake_names.py            at the top of the repository, onc
        python3 tools/snake_names.py --list     prints the renamings and the names that would fall together
 
 Renamed are the names with a dash that a file of specs/ or proofs/ declares (a signature at the head of a line, a field, a
-helper), in specs/, proofs/, the ghost text of src/ and the must-fail edits; in comments, README and docs/ only between
+helper; also in the laws beside a function's proof), in specs/, proofs/, the ghost text of src/ and the must-fail edits; in comments, README and docs/ only between
 backquotes. Names that come from the toolchain's library or that the check generates keep their spelling.
 """
 import os
@@ -26,9 +26,11 @@ def files(root, ends):
                 yield os.path.join(folder, n)
 
 
-def own_file(path):
-    """A file of specs/ or of laws (not the proof of one function)."""
-    return re.search(r"/crates/[^/]+/(specs|proofs)/[^/]+\.antt$", path) is not None
+def declares(path, line):
+    """Whether the line can declare a name of the repository's own: any in specs/ and in laws; of a function's proof, no answer."""
+    if not re.search(r"/crates/[^/]+/(specs|proofs)/.*\.antt$", path) or line.lstrip().startswith("--"):
+        return False
+    return not (path.endswith("/Proof.antt") and re.search(r": (tie\.|\{M : Type 1\})", line))
 
 
 def read(path):
@@ -47,10 +49,9 @@ def collect(root):
                 if not (where[0] == "Rattle" and len(where) > 1 and where[1] in crates):
                     foreign |= {x.strip().split(" as ")[0] for x in m.group(2).split(",")}
                 continue
-            if own_file(path):
-                m = DECLARED.match(line)
-                if m and "-" in m.group(1) and not line.lstrip().startswith("--"):
-                    declared.add(m.group(1))
+            m = DECLARED.match(line) if declares(path, line) else None
+            if m and "-" in m.group(1):
+                declared.add(m.group(1))
     return declared, foreign
 
 
@@ -58,9 +59,16 @@ def plain(name):
     return re.search(r"[A-Za-z0-9]", name) is not None and not name.startswith("-")
 
 
+def snake(name):
+    """A type keeps its capital, in camel case; `bit_or` is the library's own."""
+    if name[0].isupper():
+        return "".join(part[:1].upper() + part[1:] for part in name.split("-"))
+    return {"bit-or": "or_with_bit"}.get(name, name.replace("-", "_"))
+
+
 def renamings(root):
     declared, foreign = collect(root)
-    return {n: n.replace("-", "_") for n in declared if plain(n) and n not in foreign}
+    return {n: snake(n) for n in declared if plain(n) and n not in foreign}
 
 
 def turn_tokens(text, to):

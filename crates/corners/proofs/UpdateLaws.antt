@@ -21,8 +21,8 @@ use Rattle.sweep.proofs.Front.{getD_mapped}
 use Rattle.corners.specs.Limits.{Limits, passing, Collecting, Collected}
 use Rattle.corners.specs.Updating.{Updating}
 use Rattle.corners.proofs.Passing.{passing_total, passing_contribution, failing_contribution, limit_twice}
-use Rattle.corners.proofs.limits.LimitsLaws.{join-at, join-length}
-use Rattle.corners.proofs.limits.CollectLaws.{corner-at}
+use Rattle.corners.proofs.limits.LimitsLaws.{join_at, join_length}
+use Rattle.corners.proofs.limits.CollectLaws.{corner_at}
 
 -- The joint contributions with u are the corners' contributions.
 corners_joints : (r u : List ℕ) (trials : List (List ℕ)) → contributions r (map (join u) trials) ≡ joints r trials u
@@ -77,7 +77,7 @@ module _ {points : List (List ℕ)} {u r : List ℕ} {corners₀ : List (List �
   some_at k l = get_or-take m corners k [] l ∙ h.collected.corner k l
 
   some_axis : (k a : ℕ) → k < m → get_or (get_or some k []) a 0 ≡ max (get_or u a 0) (get_or (get_or points (get_or places k 0) []) a 0)
-  some_axis k a l = rw (some_at k l) (join-at u (get_or points (get_or places k 0) []) a)
+  some_axis k a l = rw (some_at k l) (join_at u (get_or points (get_or places k 0) []) a)
 
   -- The corners collected are as the sweep asks.
   some_sorted : Sorted some
@@ -92,7 +92,7 @@ module _ {points : List (List ℕ)} {u r : List ℕ} {corners₀ : List (List �
       axes : (k : ℕ) → k < m → length (get_or some k []) ≡ 3
       axes k l =
           rw (some_at k l)
-          (join-length u (get_or points (get_or places k 0) []) (sorted.axes (get_or places k 0) (h.collected.inside k l) ∙ sym h.axes)
+          (join_length u (get_or points (get_or places k 0) []) (sorted.axes (get_or places k 0) (h.collected.inside k l) ∙ sym h.axes)
           ∙ h.axes)
 
       small : (k : ℕ) → Dec (k < m) → Small (get_or some k [])
@@ -119,7 +119,7 @@ module _ {points : List (List ℕ)} {u r : List ℕ} {corners₀ : List (List �
 
   left_out : (j : ℕ) → j < length all → test (get_or all j []) ≡ false → Twice (passing test all) (get_or all j [])
   left_out j l e =
-      let corner = corner-at u points j (omega (arith, all_many)) in
+      let corner = corner_at u points j (omega (arith, all_many)) in
       rw corner
       (limit_twice h.limits (λ i q. omega (arith, sorted.axes i q, h.axes)) (get_or points j []) (sorted.small j) (rw corner at e))
 
@@ -156,7 +156,7 @@ module _ {points : List (List ℕ)} {u r : List ℕ} {corners₀ : List (List �
     unfolding contributions
     lent_at k l =
         let inside : get_or places k 0 < length points = h.collected.inside k l in
-        rw (lent, joints_at (get_or places k 0) inside, corner-at u points (get_or places k 0) inside)
+        rw (lent, joints_at (get_or places k 0) inside, corner_at u points (get_or places k 0) inside)
         (getD_mapped (λ t. contribution r some t) [] 0 some k (omega (arith, some_many))
         ∙ rw (some_at k l, passing_all) (passing_contribution r test all left_out (join u (get_or points (get_or places k 0) []))))
 

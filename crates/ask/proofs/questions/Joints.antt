@@ -24,20 +24,20 @@ use Rattle.records.proofs.LeaveOut.{row_of_at, length_leave_out, leave_at}
 use Rattle.records.proofs.RowAt.{blank, row_there}
 
 -- A record and the others dominate a cell as often as all do.
-pub leave-cover : (rows : List Row) (i : ℕ) (d : Row) → i < length rows
+pub leave_cover : (rows : List Row) (i : ℕ) (d : Row) → i < length rows
     → SameCover (point (get_or rows i d).trial ∷ points (trials (leave_out i rows))) (points (trials rows))
 unfolding leave_out trials points cover SameCover
-leave-cover [] i d l c = absurd (let no' : ⊥ = omega arith in no')
-leave-cover (r ∷ rows) zero d l c = refl
-leave-cover (r ∷ rows) (suc i) d l c =
-    let rest = leave-cover rows i d (omega arith) c in
+leave_cover [] i d l c = absurd (let no' : ⊥ = omega arith in no')
+leave_cover (r ∷ rows) zero d l c = refl
+leave_cover (r ∷ rows) (suc i) d l c =
+    let rest = leave_cover rows i d (omega arith) c in
     omega arith
 
 -- A count of each record's point: as many as records.
-pub length-each : (f : List ℕ → ℕ) (rows : List Row) → length (map f (points (trials rows))) ≡ length rows
+pub length_each : (f : List ℕ → ℕ) (rows : List Row) → length (map f (points (trials rows))) ≡ length rows
 unfolding points trials
-length-each f [] = refl
-length-each f (r ∷ rows) = ap suc (length-each f rows)
+length_each f [] = refl
+length_each f (r ∷ rows) = ap suc (length_each f rows)
 
 at_place : (f : List ℕ → ℕ) (rows : List Row) (j : ℕ) (d : Row) → j < length rows
     → get_or (map f (points (trials rows))) j 0 ≡ f (point (get_or rows j d).trial)
@@ -46,9 +46,9 @@ at_place f [] j d l = absurd (let no' : ⊥ = omega arith in no')
 at_place f (r ∷ rows) zero d l = refl
 at_place f (r ∷ rows) (suc j) d l = at_place f rows j d (omega arith)
 
-length-joints : (r u : List ℕ) (rows : List Row) → length (joints r (points (trials rows)) u) ≡ length rows
+length_joints : (r u : List ℕ) (rows : List Row) → length (joints r (points (trials rows)) u) ≡ length rows
 unfolding joints
-length-joints r u rows = length-each _ rows
+length_joints r u rows = length_each _ rows
 
 joints_at : (r u : List ℕ) (rows : List Row) (j : ℕ) (d : Row) → j < length rows
     → get_or (joints r (points (trials rows)) u) j 0 ≡ joint r (u ∷ points (trials rows)) u (point (get_or rows j d).trial)
@@ -57,16 +57,16 @@ joints_at r u rows j d l = at_place _ rows j d l
 
 -- The place of the record at k among the others of the one at i.
 module _ (i k : ℕ) where
-  pub among-before : k ≤ i → (i ≡ k → ⊥) → place_but i k ≡ k
+  pub among_before : k ≤ i → (i ≡ k → ⊥) → place_but i k ≡ k
   unfolding place_but pick
-  among-before l apart = rw (lt-ltb k i (less k i l (λ e. apart (sym e))))
+  among_before l apart = rw (lt-ltb k i (less k i l (λ e. apart (sym e))))
     where
       less : (m n : ℕ) → m ≤ n → (m ≡ n → ⊥) → m < n
       less m n l d = omega arith
 
-  pub among-behind : i < k → place_but i (k - 1) ≡ k
+  pub among_behind : i < k → place_but i (k - 1) ≡ k
   unfolding place_but pick
-  among-behind l = rw (le-ltb (k - 1) i (let m : i ≤ k - 1 = omega arith in m)) (omega arith)
+  among_behind l = rw (le-ltb (k - 1) i (let m : i ≤ k - 1 = omega arith in m)) (omega arith)
 
   among : (j n : ℕ) → place_but i j ≡ k → k < n → i < n → (i ≡ k → ⊥) → j < n - 1
   unfolding place_but pick
@@ -90,11 +90,11 @@ module _ (w : List ℕ) (i k : ℕ) (p : archive_rows w 0 ≡ 0) (li : i < word 
       ∙ there j l
 
   -- the amount at the place that the other trial has among the others
-  pub joint-counted : {q places counts : List ℕ} {r : Updated} (j v : ℕ) → q ≡ point (row_at w i).trial → CountedJoints w i q places counts r → (i ≡ k → ⊥) → place_but i j ≡ k
+  pub joint_counted : {q places counts : List ℕ} {r : Updated} (j v : ℕ) → q ≡ point (row_at w i).trial → CountedJoints w i q places counts r → (i ≡ k → ⊥) → place_but i j ≡ k
       → v ≡ get_or (amounts_at (length (leave_out i (read w).rows)) (take r.moved places) (take r.moved counts)) j 0
       → v ≡ joint_of (read w) (row_at w i).trial.number (row_at w k).trial.number
   unfolding joint_of
-  joint-counted {q} {places} {counts} {r} j v e c apart there' is =
+  joint_counted {q} {places} {counts} {r} j v e c apart there' is =
       let R = reference_of (read w) in
       let P = held_points (read w) in
       let others = points (trials (leave_out i (read w).rows)) in
@@ -112,5 +112,5 @@ module _ (w : List ℕ) (i k : ℕ) (p : archive_rows w 0 ≡ 0) (li : i < word 
       ∙ ap (λ x. joint R (q ∷ others) q (point x.trial)) s in
       value
       ∙ ap₂ (λ x y. joint R (x ∷ others) y (point (get_or (read w).rows k blank).trial)) first e
-      ∙ joint_same R _ P _ _ (leave-cover (read w).rows i blank (omega arith))
+      ∙ joint_same R _ P _ _ (leave_cover (read w).rows i blank (omega arith))
       ∙ ap₂ (λ x y. joint R P (point x.trial) (point y.trial)) (sym (by_number i li)) (there k lk ∙ sym (by_number k lk))

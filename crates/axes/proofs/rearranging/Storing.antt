@@ -31,10 +31,10 @@ row_rearranged order w place p e =
     ap (word w) (let at : 12 + 5 * place ≡ 8 + 5 * place + 4 = omega arith in at) ∙ ap (λ r. r.kept) (row_at_words w place) in
     rw (e, kept, ← row_at_number w place)
 
-pub shape-rearranged : (order : ℕ) (s : Shape) (p : List ℕ) → p ≡ rearranged order (reference s)
+pub shape_rearranged : (order : ℕ) (s : Shape) (p : List ℕ) → p ≡ rearranged order (reference s)
     → record { capacity = s.capacity; rx = get_or p 0 0; ry = get_or p 1 0; rz = get_or p 2 0 } ≡ rearranged_shape order s
 unfolding rearranged_shape along place_of
-shape-rearranged order s p e = rw e
+shape_rearranged order s p e = rw e
 
 -- ---- the loop that writes records
 
@@ -43,9 +43,9 @@ pub record RecordsPut (w : List ℕ) (order : ℕ) (keys old : List ℕ) (i : �
   pub long : length now ≡ length old
   pub is : now ≡ put old 8 (records (take i (rows_by w order keys)))
 
-pub records-none : (w : List ℕ) (order : ℕ) (keys old : List ℕ) → RecordsPut w order keys old 0 old
+pub records_none : (w : List ℕ) (order : ℕ) (keys old : List ℕ) → RecordsPut w order keys old 0 old
 unfolding records
-records-none w order keys old = record { part = omega arith; long = refl; is = sym (put_none old 8) }
+records_none w order keys old = record { part = omega arith; long = refl; is = sym (put_none old 8) }
 
 length_rows : (w : List ℕ) (order : ℕ) (keys : List ℕ) → length (rows_by w order keys) ≡ length keys
 unfolding rows_by
@@ -55,11 +55,11 @@ row_by : (w : List ℕ) (order : ℕ) (keys : List ℕ) (i : ℕ) → i < length
 unfolding rows_by
 row_by w order keys i l = getD_mapped (λ key. rearranged_row order (row_at w (key % 512))) 0 blank keys i l
 
-pub records-more : {w : List ℕ} {order : ℕ} {keys old : List ℕ} {i : ℕ} {now : List ℕ} (after : List ℕ) → RecordsPut w order keys old i now → i < length keys
+pub records_more : {w : List ℕ} {order : ℕ} {keys old : List ℕ} {i : ℕ} {now : List ℕ} (after : List ℕ) → RecordsPut w order keys old i now → i < length keys
     → 8 + 5 * length keys ≤ length old
     → after ≡ put now (8 + 5 * i) (record_words (rearranged_row order (row_at w (get_or keys i 0 % 512)))) → length after ≡ length now
     → RecordsPut w order keys old (i + 1) after
-records-more {w} {order} {keys} {old} {i} {now} after h l room e same =
+records_more {w} {order} {keys} {old} {i} {now} after h l room e same =
     record {
       part = omega arith;
       long = same ∙ h.long;
@@ -68,20 +68,20 @@ records-more {w} {order} {keys} {old} {i} {now} after h l room e same =
           (e ∙ ap (λ r. put now (8 + 5 * i) (record_words r)) (sym (row_by w order keys i l)));
     }
 
-pub records-end : {w : List ℕ} {order : ℕ} {keys old : List ℕ} {i : ℕ} {now : List ℕ} → RecordsPut w order keys old i now → length keys ≤ i → now ≡ put old 8 (records (rows_by w order keys))
-records-end {w} {order} {keys} {old} {i} {now} h l =
+pub records_end : {w : List ℕ} {order : ℕ} {keys old : List ℕ} {i : ℕ} {now : List ℕ} → RecordsPut w order keys old i now → length keys ≤ i → now ≡ put old 8 (records (rows_by w order keys))
+records_end {w} {order} {keys} {old} {i} {now} h l =
     h.is ∙ ap (λ rows. put old 8 (records rows)) (take_all i (rows_by w order keys) (omega (arith, length_rows w order keys)))
 
 -- ---- the whole
 
 -- Records, zeros behind them, and then the header: the layout, with the words behind as they were.
-pub stored-apart : (old w₁ w₂ w₃ : List ℕ) (a : Archive) (n : ℕ) → length a.rows ≡ n → n ≤ a.shape.capacity → extent a.shape.capacity ≤ length old
+pub stored_apart : (old w₁ w₂ w₃ : List ℕ) (a : Archive) (n : ℕ) → length a.rows ≡ n → n ≤ a.shape.capacity → extent a.shape.capacity ≤ length old
     → w₁ ≡ put old 8 (records a.rows)
     → w₂ ≡ put w₁ (8 + 5 * n) (replicate (5 * (a.shape.capacity - n)) 0)
     → w₃ ≡ put w₂ 0 (header_words n a.shape a.sum a.front)
     → w₃ ≡ layout a ++ drop (extent a.shape.capacity) old
 unfolding layout header extent
-stored-apart old w₁ w₂ w₃ a n many fits room e₁ e₂ e₃ =
+stored_apart old w₁ w₂ w₃ a n many fits room e₁ e₂ e₃ =
     let rows : List ℕ = records a.rows in
     let none : List ℕ = replicate (5 * (a.shape.capacity - n)) 0 in
     let head : List ℕ = header_words n a.shape a.sum a.front in
@@ -96,7 +96,7 @@ stored-apart old w₁ w₂ w₃ a n many fits room e₁ e₂ e₃ =
     ∙ ap₂ (λ m k. (header_words m a.shape a.sum a.front ++ (rows ++ replicate (5 * (a.shape.capacity - m)) 0)) ++ drop k old) (sym many) all
 
 -- What the calls write, one after the other.
-pub archive-stored : (w : List ℕ) (order : ℕ) (keys second w₁ w₂ w₃ : List ℕ) (s : Shape) → archive_rows w 0 ≡ 0 → extent (word w 1) ≤ length second
+pub archive_stored : (w : List ℕ) (order : ℕ) (keys second w₁ w₂ w₃ : List ℕ) (s : Shape) → archive_rows w 0 ≡ 0 → extent (word w 1) ≤ length second
     → Arranged w order keys
     → w₁ ≡ put second 8 (records (rows_by w order keys))
     → w₂ ≡ put w₁ (8 + 5 * word w 0) (replicate (5 * (word w 1 - word w 0)) 0)
@@ -104,7 +104,7 @@ pub archive-stored : (w : List ℕ) (order : ℕ) (keys second w₁ w₂ w₃ : 
     → w₃ ≡ put w₂ 0 (header_words (word w 0) s (word w 5) (word w 6))
     → w₃ ≡ layout (rearranged_archive order (read w)) ++ drop (extent (word w 1)) second
 unfolding rearranged_archive rearranged_shape read read_shape
-archive-stored w order keys second w₁ w₂ w₃ s pass room arranged e₁ e₂ es e₃ =
-    stored-apart second w₁ w₂ w₃ (rearranged_archive order (read w)) (word w 0) (rearranged_many w order) (known w pass).held_within room
+archive_stored w order keys second w₁ w₂ w₃ s pass room arranged e₁ e₂ es e₃ =
+    stored_apart second w₁ w₂ w₃ (rearranged_archive order (read w)) (word w 0) (rearranged_many w order) (known w pass).held_within room
     (e₁ ∙ ap (λ rows. put second 8 (records rows)) arranged.rows) e₂
     (e₃ ∙ ap (λ x. put w₂ 0 (header_words (word w 0) x (word w 5) (word w 6))) es)

@@ -11,23 +11,23 @@ use Rattle.slices.specs.Choices.{pick}
 use Rattle.text.specs.Lines.{Numbers, line_from}
 use Rattle.card.specs.Card.{line_count, due}
 
-due-at : (card : List ℕ) (line : ℕ) → (line ≡ 0 → ⊥)
+due_at : (card : List ℕ) (line : ℕ) → (line ≡ 0 → ⊥)
     → due card line ≡ pick (ltb (line - 1) (line_count card)) (some (line_from (33 * (line - 1)) card)) none
 unfolding due
-due-at card zero some-line = absurd (some-line refl)
-due-at card (suc i) some-line =
+due_at card zero some-line = absurd (some-line refl)
+due_at card (suc i) some-line =
     let one : suc i - 1 ≡ i = omega arith in
     rw one
 
-pub due-before : (card : List ℕ) {line : ℕ} → line ≡ 0 → none ≡ due card line
+pub due_before : (card : List ℕ) {line : ℕ} → line ≡ 0 → none ≡ due card line
 unfolding due
-due-before card e = rw e
+due_before card e = rw e
 
 pub due_next : (card : List ℕ) {line : ℕ} {l : Option Numbers} → (line ≡ 0 → ⊥) → line - 1 < (length card + 32) / 33
     → l ≡ line_from (33 * (line - 1)) card → some l ≡ due card line
 unfolding pick line_count
-due_next card {line} some-line inside e = rw (due-at card line some-line, lt-ltb (line - 1) ((length card + 32) / 33) inside, e)
+due_next card {line} some-line inside e = rw (due_at card line some-line, lt-ltb (line - 1) ((length card + 32) / 33) inside, e)
 
-pub due-behind : (card : List ℕ) {line : ℕ} → (line ≡ 0 → ⊥) → (length card + 32) / 33 ≤ line - 1 → none ≡ due card line
+pub due_behind : (card : List ℕ) {line : ℕ} → (line ≡ 0 → ⊥) → (length card + 32) / 33 ≤ line - 1 → none ≡ due card line
 unfolding pick line_count
-due-behind card {line} some-line behind = rw (due-at card line some-line, le-ltb (line - 1) ((length card + 32) / 33) behind)
+due_behind card {line} some-line behind = rw (due_at card line some-line, le-ltb (line - 1) ((length card + 32) / 33) behind)

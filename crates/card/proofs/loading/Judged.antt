@@ -20,9 +20,9 @@ module _ (w card : List ℕ) {a : Loaded} (judged : a ≡ answer_of (judge (leng
   pub load_refused : (a.refusal ≡ 0 → ⊥) → (a ≡ (load w card).answer) × (w ≡ (load w card).words)
   load_refused other = (answers, sym (load_stays w card (λ e. other (ap (λ x. x.refusal) answers ∙ e))))
 
-  pub load-done : {r : Loaded} {after : List ℕ} → a.refusal ≡ 0 → ReadInto (load w card) r after
+  pub load_done : {r : Loaded} {after : List ℕ} → a.refusal ≡ 0 → ReadInto (load w card) r after
       → (r ≡ (load w card).answer) × (after ≡ (load w card).words)
-  load-done none read = (read.answer, read.words (ap (λ x. x.refusal) (read.answer ∙ sym answers) ∙ none))
+  load_done none read = (read.answer, read.words (ap (λ x. x.refusal) (read.answer ∙ sym answers) ∙ none))
 
 small_row : {n line : ℕ} → TurnedDown n line → (n ≤ 15) × (line ≤ 514)
 small_row (form l h) = (omega arith, h)
@@ -39,8 +39,8 @@ small (refusal n line) (verdicts.refused d) = small_row d
 small (archive a) (verdicts.accepted f) = (omega arith, omega arith)
 
 module _ (card : List ℕ) {r : Loaded} (judged : r ≡ answer_of (judge 2568 (lines card))) where
-  pub small-answer : (r.refusal ≤ 15) × (r.line ≤ 514)
-  small-answer = rw judged (small (judge 2568 (lines card)) (verdicts.possible 2568 (lines card)))
+  pub small_answer : (r.refusal ≤ 15) × (r.line ≤ 514)
+  small_answer = rw judged (small (judge 2568 (lines card)) (verdicts.possible 2568 (lines card)))
 
   pub checked : r.refusal * 65536 + r.line ≡ check card
   unfolding packed extent

@@ -16,22 +16,22 @@ use Rattle.card.proofs.Verdicts.{in_turn_refused, in_turn_passed, answers_refusa
 
 module _ (room : ℕ) (card : List ℕ) where
   -- No line, or one that is not of the form.
-  pub no-first : {r : Loaded} → none ≡ due card 1 → r ≡ record { refusal = 15; line = 1; count = 0 } → r ≡ answer_of (judge room (lines card))
+  pub no_first : {r : Loaded} → none ≡ due card 1 → r ≡ record { refusal = 15; line = 1; count = 0 } → r ≡ answer_of (judge room (lines card))
   unfolding judge
-  no-first e = answers_refusal (ap (judge room) (no_lines_due card {line = 1} (omega arith) e))
+  no_first e = answers_refusal (ap (judge room) (no_lines_due card {line = 1} (omega arith) e))
 
-  pub bad-first : {r : Loaded} → some none ≡ due card 1 → r ≡ record { refusal = 15; line = 1; count = 0 } → r ≡ answer_of (judge room (lines card))
+  pub bad_first : {r : Loaded} → some none ≡ due card 1 → r ≡ record { refusal = 15; line = 1; count = 0 } → r ≡ answer_of (judge room (lines card))
   unfolding judge
-  bad-first e = answers_refusal (ap (judge room) (lines_due card (inside card e)))
+  bad_first e = answers_refusal (ap (judge room) (lines_due card (inside card e)))
 
   module _ (v : Numbers) (e : some (some v) ≡ due card 1) {k : ℕ} (row : k ≡ start_rows room (shape_on v)) where
-    first-in-turn : judge room (lines card) ≡ in_turn k 1 (judge_further (empty (shape_on v)) (lines (drop 33 card)))
+    first_in_turn : judge room (lines card) ≡ in_turn k 1 (judge_further (empty (shape_on v)) (lines (drop 33 card)))
     unfolding judge
-    first-in-turn = rw row (ap (judge room) (lines_due card (inside card e)))
+    first_in_turn = rw row (ap (judge room) (lines_due card (inside card e)))
 
-    pub first-refused : {r : Loaded} → (k ≡ 0 → ⊥) → r ≡ record { refusal = k; line = 1; count = 0 } → r ≡ answer_of (judge room (lines card))
-    first-refused other = answers_refusal (first-in-turn ∙ in_turn_refused k 1 _ other)
+    pub first_refused : {r : Loaded} → (k ≡ 0 → ⊥) → r ≡ record { refusal = k; line = 1; count = 0 } → r ≡ answer_of (judge room (lines card))
+    first_refused other = answers_refusal (first_in_turn ∙ in_turn_refused k 1 _ other)
 
-    pub first-passed : {r : Loaded} → k ≡ 0 → r ≡ answer_of (judge_further (empty (shape_on v)) (lines (drop 33 card)))
+    pub first_passed : {r : Loaded} → k ≡ 0 → r ≡ answer_of (judge_further (empty (shape_on v)) (lines (drop 33 card)))
         → r ≡ answer_of (judge room (lines card))
-    first-passed done said = said ∙ ap answer_of (sym (first-in-turn ∙ in_turn_passed k 1 _ done))
+    first_passed done said = said ∙ ap answer_of (sym (first_in_turn ∙ in_turn_passed k 1 _ done))

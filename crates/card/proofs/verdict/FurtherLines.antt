@@ -42,19 +42,19 @@ module _ (card : List ℕ) (count m i : ℕ) (s : Searched card count m i) where
       let one : i ≡ i - 1 + 1 = omega arith in
       s.left ∙ ap (λ k. taken card k m) one ∙ taken_more card (i - 1) m
 
-  pub searched-more : 0 < i → (number_due (due card (i - 1 + 2)) ≡ m → ⊥) → Searched card count m (i - 1)
+  pub searched_more : 0 < i → (number_due (due card (i - 1 + 2)) ≡ m → ⊥) → Searched card count m (i - 1)
   unfolding either
-  searched-more l other =
+  searched_more l other =
       let within : i ≤ count = s.inside in
       record { inside = omega arith; left = last_line l ∙ (rw (ne_eqb (number_due (due card (i - 1 + 2))) m other)) }
 
-  pub searched-stop : 0 < i → number_due (due card (i - 1 + 2)) ≡ m → true ≡ taken card count m
+  pub searched_stop : 0 < i → number_due (due card (i - 1 + 2)) ≡ m → true ≡ taken card count m
   unfolding either
-  searched-stop l e = sym (last_line l ∙ (rw (eq-eqb (number_due (due card (i - 1 + 2))) m e)))
+  searched_stop l e = sym (last_line l ∙ (rw (eq-eqb (number_due (due card (i - 1 + 2))) m e)))
 
-  pub searched-end : i ≤ 0 → false ≡ taken card count m
+  pub searched_end : i ≤ 0 → false ≡ taken card count m
   unfolding taken
-  searched-end l =
+  searched_end l =
       let none_left : i ≡ 0 = omega arith in
       sym (s.left ∙ ap (λ k. taken card k m) none_left)
 
@@ -86,8 +86,8 @@ judged_none card s table sized =
 
 module _ {card : List ℕ} {s : Shape} {count : ℕ} {table : List ℕ} (j : Judged card s count table) where
   -- A number whose bit is clear is not taken.
-  pub judged-unmet : {met : Bool} {n m : ℕ} → n ≡ m → met ≡ marked table n → met ≡ false → taken card count m ≡ false
-  judged-unmet {m = m} number e clear = go (taken card count m) refl
+  pub judged_unmet : {met : Bool} {n m : ℕ} → n ≡ m → met ≡ marked table n → met ≡ false → taken card count m ≡ false
+  judged_unmet {m = m} number e clear = go (taken card count m) refl
     where
       go : (t : Bool) → taken card count m ≡ t → t ≡ false
       go true q = absurd (true≢false (sym (j.noted m q) ∙ ap (marked table) (sym number) ∙ sym e ∙ clear))
@@ -110,18 +110,18 @@ module _ {card : List ℕ} {s : Shape} {count : ℕ} {table : List ℕ} (j : Jud
   unfolding judge_further
   line_passed v ls e = in_turn_passed _ _ _ (sym (rows_alike v) ∙ e)
 
-  lines-here : {l : Option Numbers} → some l ≡ due card (count + 2)
+  lines_here : {l : Option Numbers} → some l ≡ due card (count + 2)
       → lines (drop (33 * (count + 1)) card) ≡ l ∷ lines (drop (33 * (count + 1 + 1)) card)
-  lines-here e =
+  lines_here e =
       let here : count + 2 - 1 ≡ count + 1 = omega arith in
       let next : count + 2 ≡ count + 1 + 1 = omega arith in
       rw (here, next) at (lines_due card (inside card e))
 
-  pub judged-stop : {l : Option Numbers} {k : ℕ} {r : Loaded} → some l ≡ due card (count + 2)
+  pub judged_stop : {l : Option Numbers} {k : ℕ} {r : Loaded} → some l ≡ due card (count + 2)
       → k ≡ further_rows s.capacity count (taken card count (number_due (some l))) l → (k ≡ 0 → ⊥)
       → r ≡ record { refusal = k; line = count + 2; count = 0 } → r ≡ answer_of (judge_further (empty s) (lines (drop 33 card)))
-  judged-stop {l} here e other said =
-      answers_refusal (j.left ∙ ap (judge_further j.so_far) (lines-here here) ∙ line_refused l _ e other) said
+  judged_stop {l} here e other said =
+      answers_refusal (j.left ∙ ap (judge_further j.so_far) (lines_here here) ∙ line_refused l _ e other) said
 
   pub judged_end : none ≡ due card (count + 2)
       → record { refusal = 0; line = 0; count = count } ≡ answer_of (judge_further (empty s) (lines (drop 33 card)))
@@ -174,5 +174,5 @@ module _ {card : List ℕ} {s : Shape} {count : ℕ} {table : List ℕ} (j : Jud
             noted = noted;
             sized = sized ∙ j.sized;
             inside = omega arith;
-            left = j.left ∙ ap (judge_further j.so_far) (lines-here here) ∙ line_passed v _ passed;
+            left = j.left ∙ ap (judge_further j.so_far) (lines_here here) ∙ line_passed v _ passed;
           }

@@ -20,8 +20,8 @@ use Rattle.corners.specs.Limits.{passing, Collecting, Collected}
 use Rattle.corners.proofs.Passing.{corner_within, passing_append, passing_none}
 
 -- The corner with the j-th point.
-pub corner-at : (u : List ℕ) (points : List (List ℕ)) (j : ℕ) → j < length points → get_or (map (join u) points) j [] ≡ join u (get_or points j [])
-corner-at u points j l = getD_mapped (join u) [] [] points j l
+pub corner_at : (u : List ℕ) (points : List (List ℕ)) (j : ℕ) → j < length points → get_or (map (join u) points) j [] ≡ join u (get_or points j [])
+corner_at u points j l = getD_mapped (join u) [] [] points j l
 
 -- The loop.
 pub record Gathering (points : List (List ℕ)) (u limit : List ℕ) (corners₀ : List (List ℕ)) (places₀ : List ℕ) (corners : List (List ℕ)) (places : List ℕ) (m i : ℕ) : Type 0 where
@@ -31,9 +31,9 @@ pub record Gathering (points : List (List ℕ)) (u limit : List ℕ) (corners₀
   pub places_long : length places ≡ length places₀
   pub collected : Collected points u limit i corners places m
 
-pub gathering-none : {points : List (List ℕ)} {u limit : List ℕ} {corners : List (List ℕ)} {places : List ℕ} → Collecting points u limit corners places → Gathering points u limit corners places corners places 0 0
+pub gathering_none : {points : List (List ℕ)} {u limit : List ℕ} {corners : List (List ℕ)} {places : List ℕ} → Collecting points u limit corners places → Gathering points u limit corners places corners places 0 0
 unfolding passing
-gathering-none h =
+gathering_none h =
     record {
       asked = h;
       within = omega arith;
@@ -51,18 +51,18 @@ gathering-none h =
     }
 
 -- A point past the limit on some axis is not within it.
-dominates-on : (p c : List ℕ) (a : ℕ) → a < length c → dominates p c ≡ true → get_or p a 0 ≤ get_or c a 0
+dominates_on : (p c : List ℕ) (a : ℕ) → a < length c → dominates p c ≡ true → get_or p a 0 ≤ get_or c a 0
 unfolding dominates
-dominates-on [] c a l d = omega arith
-dominates-on (x ∷ p) [] a l d = absurd (let no' : ⊥ = omega arith in no')
-dominates-on (x ∷ p) (y ∷ c) zero l d = leb-true x y (both_true (leb x y) (dominates p c) d).0
-dominates-on (x ∷ p) (y ∷ c) (suc a) l d = dominates-on p c a (omega arith) (both_true (leb x y) (dominates p c) d).1
+dominates_on [] c a l d = omega arith
+dominates_on (x ∷ p) [] a l d = absurd (let no' : ⊥ = omega arith in no')
+dominates_on (x ∷ p) (y ∷ c) zero l d = leb-true x y (both_true (leb x y) (dominates p c) d).0
+dominates_on (x ∷ p) (y ∷ c) (suc a) l d = dominates_on p c a (omega arith) (both_true (leb x y) (dominates p c) d).1
 
 past : (p c : List ℕ) (a : ℕ) → a < length c → get_or c a 0 < get_or p a 0 → dominates p c ≡ false
 past p c a l q = go (dominates p c) refl
   where
     go : (b : Bool) → dominates p c ≡ b → b ≡ false
-    go true e = absurd (let no' : ⊥ = omega (arith, dominates-on p c a l e) in no')
+    go true e = absurd (let no' : ⊥ = omega (arith, dominates_on p c a l e) in no')
     go false e = refl
 
 module _ {points : List (List ℕ)} {u limit : List ℕ} {corners₀ : List (List ℕ)} {places₀ : List ℕ} {corners : List (List ℕ)} {places : List ℕ} {m i : ℕ} (h : Gathering points u limit corners₀ places₀ corners places m i) where
@@ -78,8 +78,8 @@ module _ {points : List (List ℕ)} {u limit : List ℕ} {corners₀ : List (Lis
   all_many : length all ≡ length points
   all_many = length-map points (join u)
 
-  pub gathering-end : length points ≤ i → Collected points u limit (length points) corners places m
-  gathering-end l = let whole : i ≡ length points = omega (arith, h.within) in rw whole at old
+  pub gathering_end : length points ≤ i → Collected points u limit (length points) corners places m
+  gathering_end l = let whole : i ≡ length points = omega (arith, h.within) in rw whole at old
 
   -- The turn of the point p.
   module _ (l : i < length points) where
@@ -93,19 +93,19 @@ module _ {points : List (List ℕ)} {u limit : List ℕ} {corners₀ : List (Lis
     places_room = omega (arith, h.places_long, h.asked.places_room, old.few)
 
     here : get_or all i [] ≡ join u p
-    here = corner-at u points i l
+    here = corner_at u points i l
 
     tested : test (join u p) ≡ test p
     tested = corner_within u p limit h.asked.above
 
-    passing-next : (t : Bool) → test p ≡ t → passing test (take (i + 1) all) ≡ passing test (take i all) ++ pick t (join u p ∷ []) []
+    passing_next : (t : Bool) → test p ≡ t → passing test (take (i + 1) all) ≡ passing test (take i all) ++ pick t (join u p ∷ []) []
     unfolding passing
-    passing-next t e =
+    passing_next t e =
         rw (add-one i, take-suc all i [] (omega (arith, all_many)), here, passing_append test (take i all) (join u p ∷ []), tested, e)
 
-    pub gathering-skip : {t : List ℕ} {within : Bool} → t ≡ p → within ≡ test t → within ≡ false → Gathering points u limit corners₀ places₀ corners places m (i + 1)
+    pub gathering_skip : {t : List ℕ} {within : Bool} → t ≡ p → within ≡ test t → within ≡ false → Gathering points u limit corners₀ places₀ corners places m (i + 1)
     unfolding pick
-    gathering-skip {t} {within} e f g =
+    gathering_skip {t} {within} e f g =
         record {
           asked = h.asked;
           within = omega arith;
@@ -114,7 +114,7 @@ module _ {points : List (List ℕ)} {u limit : List ℕ} {corners₀ : List (Lis
           collected =
               record {
                 few = omega (arith, old.few);
-                all = old.all ∙ sym (passing-next false out ∙ append-nil _);
+                all = old.all ∙ sym (passing_next false out ∙ append-nil _);
                 corner = old.corner;
                 inside = λ k q. omega (arith, old.inside k q);
                 rising = old.rising;
@@ -132,9 +132,9 @@ module _ {points : List (List ℕ)} {u limit : List ℕ} {corners₀ : List (Lis
             let never : false ≡ true = sym out ∙ sym tested ∙ (rw (last, here) at d) in
             absurd (let z : ◌≡◌ {A = ℕ} 0 1 = cc in omega arith)
 
-    pub gathering-more : {t corner : List ℕ} {within : Bool} {corners' : List (List ℕ)} → t ≡ p → within ≡ test t → within ≡ true → corner ≡ join u t → corners' ≡ set corners m corner → Gathering points u limit corners₀ places₀ corners' (set places m i) (m + 1) (i + 1)
+    pub gathering_more : {t corner : List ℕ} {within : Bool} {corners' : List (List ℕ)} → t ≡ p → within ≡ test t → within ≡ true → corner ≡ join u t → corners' ≡ set corners m corner → Gathering points u limit corners₀ places₀ corners' (set places m i) (m + 1) (i + 1)
     unfolding pick
-    gathering-more {t} {corner} {within} {corners'} e f g c s =
+    gathering_more {t} {corner} {within} {corners'} e f g c s =
         record {
           asked = h.asked;
           within = omega arith;
@@ -143,8 +143,8 @@ module _ {points : List (List ℕ)} {u limit : List ℕ} {corners₀ : List (Lis
           collected =
               record {
                 few = omega (arith, old.few);
-                all = rw (put, add-one m, take-suc-set corners m (join u p) corners_room, old.all) (sym (passing-next true inside-limit));
-                corner = λ k q. corner-of k q (dec_le (suc k) m);
+                all = rw (put, add-one m, take-suc-set corners m (join u p) corners_room, old.all) (sym (passing_next true inside_limit));
+                corner = λ k q. corner_of k q (dec_le (suc k) m);
                 inside = λ k q. inside k q (dec_le (suc k) m);
                 rising = λ k q. rising k q (dec_le (suc (suc k)) m);
                 every = λ j q d. every j d q (dec_le (suc j) i);
@@ -154,8 +154,8 @@ module _ {points : List (List ℕ)} {u limit : List ℕ} {corners₀ : List (Lis
         put : corners' ≡ set corners m (join u p)
         put = s ∙ ap (set corners m) (c ∙ ap (join u) e)
 
-        inside-limit : test p ≡ true
-        inside-limit = rw (← e, ← f) g
+        inside_limit : test p ≡ true
+        inside_limit = rw (← e, ← f) g
 
         first : (k : ℕ) → k < m → get_or (set places m i) k 0 ≡ get_or places k 0
         first k a = get_or-set_other places m k i 0 (λ q. omega arith)
@@ -163,9 +163,9 @@ module _ {points : List (List ℕ)} {u limit : List ℕ} {corners₀ : List (Lis
         last : get_or (set places m i) m 0 ≡ i
         last = get_or-set_same places m i 0 places_room
 
-        corner-of : (k : ℕ) → k < m + 1 → Dec (k < m) → get_or corners' k [] ≡ join u (get_or points (get_or (set places m i) k 0) [])
-        corner-of k q (yes a) = rw (put, get_or-set_other corners m k (join u p) [] (λ g. omega arith), first k a) (old.corner k a)
-        corner-of k q (no a) =
+        corner_of : (k : ℕ) → k < m + 1 → Dec (k < m) → get_or corners' k [] ≡ join u (get_or points (get_or (set places m i) k 0) [])
+        corner_of k q (yes a) = rw (put, get_or-set_other corners m k (join u p) [] (λ g. omega arith), first k a) (old.corner k a)
+        corner_of k q (no a) =
             let same : k ≡ m = omega arith in
             rw (put, same, get_or-set_same corners m (join u p) [] corners_room, last)
 
@@ -189,11 +189,11 @@ module _ {points : List (List ℕ)} {u limit : List ℕ} {corners₀ : List (Lis
     -- Where p is past the limit on z, so is every later point.
     none_within : length limit ≡ 3 → get_or limit 2 0 < get_or p 2 0 → (j : ℕ) → i ≤ j → j < length points → test (get_or all j []) ≡ false
     none_within e beyond j n o =
-        rw (corner-at u points j o, corner_within u (get_or points j []) limit h.asked.above)
+        rw (corner_at u points j o, corner_within u (get_or points j []) limit h.asked.above)
         (past (get_or points j []) limit 2 (omega arith) (omega (arith, ascending_at h.asked.sorted i j n o)))
 
-    pub gathering-stop : {t : List ℕ} → length limit ≡ 3 → t ≡ p → get_or limit 2 0 < get_or t 2 0 → Collected points u limit (length points) corners places m
-    gathering-stop {t} e f beyond =
+    pub gathering_stop : {t : List ℕ} → length limit ≡ 3 → t ≡ p → get_or limit 2 0 < get_or t 2 0 → Collected points u limit (length points) corners places m
+    gathering_stop {t} e f beyond =
         record {
           few = omega (arith, old.few);
           all = old.all ∙ sym behind;

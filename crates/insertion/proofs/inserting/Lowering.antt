@@ -25,8 +25,8 @@ use Rattle.records.proofs.MovedAmounts.{falls_below_pairs}
 
 -- What counting leaves, as the amounts of an insertion.
 module _ {w : List ℕ} (t : Trial) {q places counts : List ℕ} {r : Updated} (p : archive_rows w 0 ≡ 0) (here : q ≡ point t) (c : CountedJoints w (word w 0) q places counts r) (l : 512 ≤ length places) (m : 512 ≤ length counts) where
-  pub counted-shares : InsertShares w t (take r.moved places) (take r.moved counts)
-  counted-shares =
+  pub counted_shares : InsertShares w t (take r.moved places) (take r.moved counts)
+  counted_shares =
       let all : length (read w).rows ≡ word w 0 = count_rows w in
       record {
         placed = subst (λ n. Placed n (take r.moved places) (take r.moved counts)) (ap length (sym (all_rows w (word w 0) refl)) ∙ all) (counted_placed p c l m);
@@ -38,37 +38,37 @@ module _ {w : List ℕ} (t : Trial) {q places counts : List ℕ} {r : Updated} (
     gained : r.gain ≡ insert_gain (read w) t
     gained = all_gain t here c
 
-    pub judged-over : cells < word w 5 + r.gain → InsertAmounts w t places counts (record { amount = r.gain; places = r.moved; fits = false })
+    pub judged_over : cells < word w 5 + r.gain → InsertAmounts w t places counts (record { amount = r.gain; places = r.moved; fits = false })
     unfolding insert_overruns either not read
-    judged-over k =
+    judged_over k =
         record {
           gained = gained;
           judged = sym (ap not (ap (λ x. either x (falls_below (read w) t (read w).rows)) (lt-ltb (box_of (read w)) (word w 5 + insert_gain (read w) t) (let s : box_of (read w) < word w 5 + insert_gain (read w) t = rw (← boxed, ← gained) k in s))));
           few = counted_few p c;
-          lowers = counted-shares;
+          lowers = counted_shares;
         }
 
-    behind-box : word w 5 + r.gain ≤ cells → insert_overruns (read w) t ≡ falls_below (read w) t (read w).rows
+    behind_box : word w 5 + r.gain ≤ cells → insert_overruns (read w) t ≡ falls_below (read w) t (read w).rows
     unfolding insert_overruns either read
-    behind-box k =
+    behind_box k =
         ap (λ x. either x (falls_below (read w) t (read w).rows))
         (le-ltb (box_of (read w)) (word w 5 + insert_gain (read w) t) (let s : word w 5 + insert_gain (read w) t ≤ box_of (read w) = rw (← boxed, ← gained) k in s))
 
-    pub judged-each : (b : Bool) → word w 5 + r.gain ≤ cells
+    pub judged_each : (b : Bool) → word w 5 + r.gain ≤ cells
         → b ≡ not (some_pair (λ v m. ltb v m) (column 4 (rows_before w (word w 0))) (amounts_at (word w 0) (take r.moved places) (take r.moved counts)))
         → InsertAmounts w t places counts (record { amount = r.gain; places = r.moved; fits = b })
     unfolding read
-    judged-each b k e =
+    judged_each b k e =
         record {
           gained = gained;
-          judged = e ∙ sym (ap not (behind-box k ∙ falls_below_pairs (read w) t (read w).rows ∙ ap (some_pair (λ v m. ltb v m) (column 4 (read w).rows)) (sym counted-shares.shared)));
+          judged = e ∙ sym (ap not (behind_box k ∙ falls_below_pairs (read w) t (read w).rows ∙ ap (some_pair (λ v m. ltb v m) (column 4 (read w).rows)) (sym counted_shares.shared)));
           few = counted_few p c;
-          lowers = counted-shares;
+          lowers = counted_shares;
         }
 
 -- The kept total and a gain are both at most the box, so their sum fits a word.
-pub gain-fits : (w : List ℕ) (t : Trial) (r : ℕ) → archive_rows w 0 ≡ 0 → r ≡ insert_gain (read w) t → word w 5 + r ≤ 2305843009213693952
+pub gain_fits : (w : List ℕ) (t : Trial) (r : ℕ) → archive_rows w 0 ≡ 0 → r ≡ insert_gain (read w) t → word w 5 + r ≤ 2305843009213693952
 unfolding insert_gain read
-gain-fits w t r p e =
+gain_fits w t r p e =
     let most : insert_gain (read w) t ≤ box_of (read w) = gain_le_box (reference_of (read w)) (held_points (read w)) (point t) in
     omega (arith, known w p)

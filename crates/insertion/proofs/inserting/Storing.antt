@@ -31,24 +31,24 @@ use Rattle.insertion.specs.Inserting.{InsertAmounts, InsertReady, entered}
 use Rattle.records.proofs.MovedAmounts.{lowered_rows, falls_below_pairs}
 
 -- Storing an insertion: sums fit, and the words left are the new layout.
-pub storing-fits : {w : List ℕ} {t : Trial} {g : ℕ} {places counts : List ℕ} → InsertReady w t g places counts → word w 5 + g ≤ 1152921504606846976
+pub storing_fits : {w : List ℕ} {t : Trial} {g : ℕ} {places counts : List ℕ} → InsertReady w t g places counts → word w 5 + g ≤ 1152921504606846976
 unfolding read
-storing-fits {w} h = omega (arith, h.whole, known w h.passes)
+storing_fits {w} h = omega (arith, h.whole, known w h.passes)
 
 -- Lowering contributions leaves the trials.
-trials-lowered : (a : Archive) (t : Trial) (rows : List Row) → trials (map (lowered a t) rows) ≡ trials rows
+trials_lowered : (a : Archive) (t : Trial) (rows : List Row) → trials (map (lowered a t) rows) ≡ trials rows
 unfolding lowered
-trials-lowered a t rows = trials_map (lowered a t) rows (λ r. refl)
+trials_lowered a t rows = trials_map (lowered a t) rows (λ r. refl)
 
 -- The new record's place is one of the places.
-pub storing-place : (w : List ℕ) (t : Trial) (k : ℕ) → k ≡ rank_of t (trials (rows_before w (word w 0))) → k ≤ word w 0
+pub storing_place : (w : List ℕ) (t : Trial) (k : ℕ) → k ≡ rank_of t (trials (rows_before w (word w 0))) → k ≤ word w 0
 unfolding trials
-storing-place w t k e =
+storing_place w t k e =
     let many : length (trials (rows_before w (word w 0))) ≡ word w 0 = length-map (rows_before w (word w 0)) _ ∙ length_read_rows (word w 0) (drop 8 w) in
     omega (arith, rank_inside t (trials (rows_before w (word w 0))))
 
 -- Contributions lowered, the new record entered, the header written.
-insert-stored : (w w₁ w₂ w₃ vs : List ℕ) (t : Trial) (k : ℕ) → Passed w → word w 0 < word w 1
+insert_stored : (w w₁ w₂ w₃ vs : List ℕ) (t : Trial) (k : ℕ) → Passed w → word w 0 < word w 1
     → k ≡ rank_of t (trials (rows_before w (word w 0)))
     → rekept (read w).rows vs ≡ map (lowered (read w) t) (read w).rows
     → w₁ ≡ put w 8 (records (rekept (rows_before w (word w 0)) vs))
@@ -56,7 +56,7 @@ insert-stored : (w w₁ w₂ w₃ vs : List ℕ) (t : Trial) (k : ℕ) → Passe
     → w₃ ≡ set (set w₂ 0 (word w 0 + 1)) 5 (word w 5 + insert_gain (read w) t)
     → w₃ ≡ entered w t
 unfolding inserted read
-insert-stored w w₁ w₂ w₃ vs t k h l ranked lower e₁ e₂ e₃ =
+insert_stored w w₁ w₂ w₃ vs t k h l ranked lower e₁ e₂ e₃ =
     let a = read w in
     let rows : List Row = map (lowered a t) a.rows in
     let row : Row = record { trial = t; kept = insert_gain a t } in
@@ -71,7 +71,7 @@ insert-stored w w₁ w₂ w₃ vs t k h l ranked lower e₁ e₂ e₃ =
     let read_again : rows_before w₁ (word w 0) ≡ rows =
     ap (λ x. rows_before x (word w 0)) first ∙ rows_put w rows [] (word w 0) (let s : 8 + length (records (map (lowered (read w) t) (read w).rows) ++ []) ≤ length w = omega arith in s) sized in
     let placed : take k rows ++ (row ∷ drop k rows) ≡ new =
-    ap (λ i. take i rows ++ (row ∷ drop i rows)) (ranked ∙ ap (rank_of t) (sym (trials-lowered a t a.rows))) ∙ sym (place_ranked row rows) in
+    ap (λ i. take i rows ++ (row ∷ drop i rows)) (ranked ∙ ap (rank_of t) (sym (trials_lowered a t a.rows))) ∙ sym (place_ranked row rows) in
     let second : w₂ ≡ put w 8 (records new) =
     e₂
     ∙ ap₂ (λ x y. put x 8 (records (take k y ++ (row ∷ drop k y)))) first read_again
@@ -82,15 +82,15 @@ insert-stored w w₁ w₂ w₃ vs t k h l ranked lower e₁ e₂ e₃ =
     Stored.stored_beside w h w₂ w₃ (inserted a t) (word w 0 + 1) 0 refl grown (omega arith) (omega arith)
     (second ∙ ap (put w 8) (sym (append-nil (records new)))) e₃
 
-pub insertion-stored : (w w₁ w₂ w₃ places counts : List ℕ) (t : Trial) (g k : ℕ) → InsertReady w t g places counts
+pub insertion_stored : (w w₁ w₂ w₃ places counts : List ℕ) (t : Trial) (g k : ℕ) → InsertReady w t g places counts
     → k ≡ rank_of t (trials (rows_before w (word w 0)))
     → w₁ ≡ put w 8 (records (rekept (rows_before w (word w 0)) (moved (λ v m. v - m) (column 4 (rows_before w (word w 0))) (amounts_at (word w 0) places counts))))
     → w₂ ≡ put w₁ 8 (records (take k (rows_before w₁ (word w 0)) ++ (record { trial = t; kept = g } ∷ drop k (rows_before w₁ (word w 0)))))
     → w₃ ≡ set (set w₂ 0 (word w 0 + 1)) 5 (word w 5 + g)
     → w₃ ≡ entered w t
 unfolding read
-insertion-stored w w₁ w₂ w₃ places counts t g k h ranked e₁ e₂ e₃ =
-    insert-stored w w₁ w₂ w₃ _ t k (passed w h.passes) h.free ranked
+insertion_stored w w₁ w₂ w₃ places counts t g k h ranked e₁ e₂ e₃ =
+    insert_stored w w₁ w₂ w₃ _ t k (passed w h.passes) h.free ranked
     (ap (λ l. rekept (read w).rows (moved (λ v m. v - m) (column 4 (read w).rows) l)) h.lowers.shared ∙ lowered_rows (read w) t (read w).rows) e₁
     (e₂ ∙ ap (λ x. put w₁ 8 (records (take k (rows_before w₁ (word w 0)) ++ (record { trial = t; kept = x } ∷ drop k (rows_before w₁ (word w 0)))))) h.gained)
     (e₃ ∙ ap (λ k. set (set w₂ 0 (word w 0 + 1)) 5 (word w 5 + k)) h.gained)
@@ -100,13 +100,13 @@ module _ {w : List ℕ} {t : Trial} {places counts : List ℕ} {m : Moved} (h : 
   pub overruns : m.fits ≡ false → insert_overruns (read w) t ≡ true
   overruns e = not-false _ (sym h.judged ∙ e)
 
-  pub fits-box : m.fits ≡ true → insert_overruns (read w) t ≡ false
-  fits-box e = not-true _ (sym h.judged ∙ e)
+  pub fits_box : m.fits ≡ true → insert_overruns (read w) t ≡ false
+  fits_box e = not-true _ (sym h.judged ∙ e)
 
   pub storing : archive_rows w 0 ≡ 0 → word w 0 < word w 1 → m.fits ≡ true → InsertReady w t m.amount (take m.places places) (take m.places counts)
   unfolding insert_overruns read
   storing p f e =
-      let parts = either_false _ _ (fits-box e) in
+      let parts = either_false _ _ (fits_box e) in
       let within_box : ltb (box_of (read w)) (word w 5 + insert_gain (read w) t) ≡ false = parts.0 in
       record {
         passes = p;

@@ -25,15 +25,15 @@ module _ (long : ℕ) (s : Shape) (t : Bool) (e : t ≡ shape_allowed s) where
   unfolding start_rows
   row_4 f = sym (guard_yes _ 4 _ (ap not (sym e ∙ f)))
 
-  behind-4 : t ≡ true → start_rows long s ≡ guard (ltb long (8 + 5 * s.capacity)) 1 0
+  behind_4 : t ≡ true → start_rows long s ≡ guard (ltb long (8 + 5 * s.capacity)) 1 0
   unfolding start_rows extent
-  behind-4 f = guard_no _ 4 _ (ap not (sym e ∙ f))
+  behind_4 f = guard_no _ 4 _ (ap not (sym e ∙ f))
 
   pub row_1 : t ≡ true → long < 8 + 5 * s.capacity → ◌≡◌ {A = ℕ} 1 (start_rows long s)
-  row_1 f l = sym (behind-4 f ∙ guard_yes _ 1 _ (lt-ltb long (8 + 5 * s.capacity) l))
+  row_1 f l = sym (behind_4 f ∙ guard_yes _ 1 _ (lt-ltb long (8 + 5 * s.capacity) l))
 
   pub no_row : t ≡ true → 8 + 5 * s.capacity ≤ long → ◌≡◌ {A = ℕ} 0 (start_rows long s)
-  no_row f l = sym (behind-4 f ∙ guard_no _ 1 _ (le-ltb long (8 + 5 * s.capacity) l))
+  no_row f l = sym (behind_4 f ∙ guard_no _ 1 _ (le-ltb long (8 + 5 * s.capacity) l))
 
 -- What they leave: room for the archive.
 pub start_room : (long : ℕ) (s : Shape) {k : ℕ} → k ≡ start_rows long s → k ≡ 0 → 8 + 5 * s.capacity ≤ long
@@ -42,9 +42,9 @@ start_room long s e none =
     ltb-false _ _ (guard_none _ _ _ (guard_none _ _ _ (sym e ∙ none)).1).0
 
 -- Start.
-pub start-refused : (w : List ℕ) (s : Shape) {k : ℕ} → k ≡ start_rows (length w) s → (k ≡ 0 → ⊥) → (k ≡ (start w s).refusal) × (w ≡ (start w s).words)
+pub start_refused : (w : List ℕ) (s : Shape) {k : ℕ} → k ≡ start_rows (length w) s → (k ≡ 0 → ⊥) → (k ≡ (start w s).refusal) × (w ≡ (start w s).words)
 unfolding start
-start-refused w s {k} e other = outcome_refused (start w s) w [] k (leaves_refused w [] _ k _ _ _ (sym e) other)
+start_refused w s {k} e other = outcome_refused (start w s) w [] k (leaves_refused w [] _ k _ _ _ (sym e) other)
 
 pub start_done : (w w₁ w₂ : List ℕ) (s : Shape) (end : ℕ) {k : ℕ} → k ≡ start_rows (length w) s → k ≡ 0 → end ≡ 8 + 5 * s.capacity
     → w₁ ≡ put w 0 (replicate end 0)

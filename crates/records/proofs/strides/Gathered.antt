@@ -11,14 +11,14 @@ use Rattle.slices.proofs.Loops.{Written, written_none, written_more, written_end
 use Rattle.records.specs.Columns.{fifths}
 use Rattle.records.proofs.Columns.{length_fifths}
 
-fifths-at : (n : ℕ) (w : List ℕ) (i : ℕ) → i < n → get_or w (5 * i) 0 ≡ get_or (fifths n w) i 0
+fifths_at : (n : ℕ) (w : List ℕ) (i : ℕ) → i < n → get_or w (5 * i) 0 ≡ get_or (fifths n w) i 0
 unfolding fifths
-fifths-at zero w i l = absurd (let no' : ⊥ = omega arith in no')
-fifths-at (suc n) w zero l = refl
-fifths-at (suc n) w (suc i) l =
+fifths_at zero w i l = absurd (let no' : ⊥ = omega arith in no')
+fifths_at (suc n) w zero l = refl
+fifths_at (suc n) w (suc i) l =
     ap (λ k. get_or w k 0) (let e : 5 * suc i ≡ 5 + 5 * i = omega arith in e)
     ∙ sym (get_or-drop 5 w (5 * i) 0)
-    ∙ fifths-at n (drop 5 w) i (omega arith)
+    ∙ fifths_at n (drop 5 w) i (omega arith)
 
 pub record Gathered (w : List ℕ) (first n : ℕ) (old now : List ℕ) (i : ℕ) : Type 0 where
   pub part : i ≤ n
@@ -40,11 +40,11 @@ module _ (w : List ℕ) (first n : ℕ) where
       }
 
 module _ {w : List ℕ} {first n : ℕ} {old now : List ℕ} {i : ℕ} (h : Gathered w first n old now i) where
-  pub gathered-more : i < n → Gathered w first n old (set now i (get_or w (first + 5 * i) 0)) (i + 1)
-  gathered-more l =
+  pub gathered_more : i < n → Gathered w first n old (set now i (get_or w (first + 5 * i) 0)) (i + 1)
+  gathered_more l =
       let done : Written old 0 (fifths n (drop first w)) (i + 1) (set now i (get_or w (first + 5 * i) 0)) =
-      rw (zero-add i) at (written_more h.done _ (omega (arith, many w first n)) (sym (get_or-drop first w (5 * i) 0) ∙ fifths-at n (drop first w) i l)) in
+      rw (zero-add i) at (written_more h.done _ (omega (arith, many w first n)) (sym (get_or-drop first w (5 * i) 0) ∙ fifths_at n (drop first w) i l)) in
       record { part = omega arith; room = h.room; long = done.long; done = done }
 
-  pub gathered-end : n ≤ i → now ≡ put old 0 (fifths n (drop first w))
-  gathered-end l = written_end h.done (omega (arith, many w first n))
+  pub gathered_end : n ≤ i → now ≡ put old 0 (fifths n (drop first w))
+  gathered_end l = written_end h.done (omega (arith, many w first n))

@@ -12,8 +12,8 @@ use Rattle.words.proofs.Reading.{length_read_rows}
 use Rattle.records.specs.Columns.{fifths, column}
 use Rattle.records.proofs.Columns.{column_front}
 
-pub column-loaded : (k n : ℕ) (w to to₁ : List ℕ) → k < 5 → to₁ ≡ put to 0 (fifths n (drop (8 + k) w)) → to₁ ≡ put to 0 (column k (read_rows n (drop 8 w)))
-column-loaded k n w to to₁ l e =
+pub column_loaded : (k n : ℕ) (w to to₁ : List ℕ) → k < 5 → to₁ ≡ put to 0 (fifths n (drop (8 + k) w)) → to₁ ≡ put to 0 (column k (read_rows n (drop 8 w)))
+column_loaded k n w to to₁ l e =
     e
     ∙ ap (put to 0)
     (column_front k n n w l (le_refl n) ∙ ap (column k) (take_all n (read_rows n (drop 8 w)) (omega (arith, length_read_rows n (drop 8 w)))))

@@ -9,24 +9,24 @@ use Rattle.slices.specs.Put.{put}
 use Rattle.slices.proofs.Put.{take_put_all, drop_take}
 use Rattle.reduction.specs.Columns.{closed}
 
-pub closed-map : {A B : Type 0} (f : A → B) (k : ℕ) (l : List A) → map f (closed k l) ≡ closed k (map f l)
+pub closed_map : {A B : Type 0} (f : A → B) (k : ℕ) (l : List A) → map f (closed k l) ≡ closed k (map f l)
 unfolding closed
-closed-map f zero [] = refl
-closed-map f zero (x ∷ l) = refl
-closed-map f (suc k) [] = refl
-closed-map f (suc k) (x ∷ l) = ap (λ t. f x ∷ t) (closed-map f k l)
+closed_map f zero [] = refl
+closed_map f zero (x ∷ l) = refl
+closed_map f (suc k) [] = refl
+closed_map f (suc k) (x ∷ l) = ap (λ t. f x ∷ t) (closed_map f k l)
 
 -- One more at the end.
-closed-more : {A : Type 0} (k : ℕ) (l : List A) (x : A) → k < length l → closed k (l ++ (x ∷ [])) ≡ closed k l ++ (x ∷ [])
+closed_more : {A : Type 0} (k : ℕ) (l : List A) (x : A) → k < length l → closed k (l ++ (x ∷ [])) ≡ closed k l ++ (x ∷ [])
 unfolding closed
-closed-more k l x h =
+closed_more k l x h =
     ap₂ ◌++◌ (take-append-le k l (x ∷ []) (omega arith)) (drop-append-le (suc k) l (x ∷ []) h)
     ∙ sym (append_assoc (take k l) (drop (suc k) l) (x ∷ []))
 
 -- The last one.
-closed-last : {A : Type 0} (k : ℕ) (l : List A) → k < length l → closed k (take (suc k) l) ≡ take k l
+closed_last : {A : Type 0} (k : ℕ) (l : List A) → k < length l → closed k (take (suc k) l) ≡ take k l
 unfolding closed
-closed-last k l h =
+closed_last k l h =
     let long : length (take (suc k) l) ≡ suc k = length-take-le (suc k) l h in
     ap₂ ◌++◌ (take-take k (suc k) l (omega arith)) (ap (λ n. drop n (take (suc k) l)) (sym long) ∙ drop-length (take (suc k) l))
     ∙ append-nil (take k l)
@@ -50,13 +50,13 @@ closed_none d old k n l room =
       long = refl;
       front =
           ap (λ i. take i old) (let e : k + 1 - 1 ≡ k = omega arith in e)
-          ∙ sym (closed-last k old (omega arith))
+          ∙ sym (closed_last k old (omega arith))
           ∙ ap (λ i. closed k (take i old)) (sym one);
       back = λ j m. refl;
     }
 
-pub closed-next : {A : Type 0} {d : A} {old : List A} {k n i : ℕ} {now : List A} → ClosedSoFar d old k n i now → i < n → ClosedSoFar d old k n (i + 1) (set now (i - 1) (get_or now i d))
-closed-next {A} {d} {old} {k} {n} {i} {now} h l =
+pub closed_next : {A : Type 0} {d : A} {old : List A} {k n i : ℕ} {now : List A} → ClosedSoFar d old k n i now → i < n → ClosedSoFar d old k n (i + 1) (set now (i - 1) (get_or now i d))
+closed_next {A} {d} {old} {k} {n} {i} {now} h l =
     let above : k < i = h.above in
     let room : n ≤ length old = h.room in
     let long : length now ≡ length old = h.long in
@@ -70,13 +70,13 @@ closed-next {A} {d} {old} {k} {n} {i} {now} h l =
           ap (λ m. take m (set now (i - 1) (get_or now i d))) (let e : i + 1 - 1 ≡ suc (i - 1) = omega arith in e)
           ∙ take-suc-set now (i - 1) (get_or now i d) (omega arith)
           ∙ ap₂ (λ x y. x ++ (y ∷ [])) h.front (h.back i (omega arith))
-          ∙ sym (closed-more k (take i old) (get_or old i d) (omega arith))
+          ∙ sym (closed_more k (take i old) (get_or old i d) (omega arith))
           ∙ ap (closed k) (sym (take-suc old i d (omega arith)) ∙ ap (λ m. take m old) (let e : suc i ≡ i + 1 = omega arith in e));
       back = λ j m. get_or-set_other now (i - 1) j (get_or now i d) d (λ e. omega arith) ∙ h.back j (omega arith);
     }
 
-pub closed-end : {A : Type 0} {d : A} {old : List A} {k n i : ℕ} {now : List A} → ClosedSoFar d old k n i now → n ≤ i → take (n - 1) now ≡ closed k (take n old)
-closed-end {A} {d} {old} {k} {n} {i} {now} h l =
+pub closed_end : {A : Type 0} {d : A} {old : List A} {k n i : ℕ} {now : List A} → ClosedSoFar d old k n i now → n ≤ i → take (n - 1) now ≡ closed k (take n old)
+closed_end {A} {d} {old} {k} {n} {i} {now} h l =
     let e : n ≡ i = (let part : i ≤ n = h.part in omega arith) in
     ap (λ m. take (m - 1) now) e ∙ h.front ∙ ap (λ m. closed k (take m old)) (sym e)
 

@@ -33,9 +33,9 @@ kept_in rows i = column_at 4 rows i refl
 abbrev goes_in : (rule : ℕ) → List ℕ → List ℕ → ℕ → ℕ → Bool
 goes_in rule numbers kept i j = precedes rule (get_or numbers i 0) (get_or kept i 0) (get_or numbers j 0) (get_or kept j 0)
 
-goes-in-rows : (rule : ℕ) (rows : List Row) (i j : ℕ) → goes_in rule (column 0 rows) (column 4 rows) i j ≡ goes_first rule (get_or rows i blank) (get_or rows j blank)
+goes_in_rows : (rule : ℕ) (rows : List Row) (i j : ℕ) → goes_in rule (column 0 rows) (column 4 rows) i j ≡ goes_first rule (get_or rows i blank) (get_or rows j blank)
 unfolding goes_first
-goes-in-rows rule rows i j = rw (number_in rows i, number_in rows j, kept_in rows i, kept_in rows j)
+goes_in_rows rule rows i j = rw (number_in rows i, number_in rows j, kept_in rows i, kept_in rows j)
 
 pub record RankedSoFar (rule : ℕ) (numbers kept : List ℕ) (best number least i : ℕ) : Type 0 where
   pub part : i ≤ length numbers
@@ -47,8 +47,8 @@ pub record RankedSoFar (rule : ℕ) (numbers kept : List ℕ) (best number least
 rows_long : (rows : List Row) (numbers : List ℕ) → column 0 rows ≡ numbers → length rows ≡ length numbers
 rows_long rows numbers e = sym (length_column 0 rows) ∙ ap length e
 
-pub ranked-none : (rule : ℕ) (numbers kept : List ℕ) → 0 < length numbers → RankedSoFar rule numbers kept 0 (get_or numbers 0 0) (get_or kept 0 0) 1
-ranked-none rule numbers kept l =
+pub ranked_none : (rule : ℕ) (numbers kept : List ℕ) → 0 < length numbers → RankedSoFar rule numbers kept 0 (get_or numbers 0 0) (get_or kept 0 0) 1
+ranked_none rule numbers kept l =
     record {
       part = omega arith;
       inside = omega arith;
@@ -58,43 +58,43 @@ ranked-none rule numbers kept l =
     }
 
 module _ {rule : ℕ} {numbers kept : List ℕ} {best number least i : ℕ} (h : RankedSoFar rule numbers kept best number least i) (l : i < length numbers) where
-  next-leads : (t : Bool) → goes_in rule numbers kept i best ≡ t → (rows : List Row) → column 0 rows ≡ numbers → column 4 rows ≡ kept → Leading rule rows blank (pick t i best) (i + 1)
-  next-leads t et rows e f =
+  next_leads : (t : Bool) → goes_in rule numbers kept i best ≡ t → (rows : List Row) → column 0 rows ≡ numbers → column 4 rows ≡ kept → Leading rule rows blank (pick t i best) (i + 1)
+  next_leads t et rows e f =
       let long : length rows ≡ length numbers = rows_long rows numbers e in
-      let test : goes_first rule (get_or rows i blank) (get_or rows best blank) ≡ t = sym (goes-in-rows rule rows i best) ∙ ap₂ (λ x y. goes_in rule x y i best) e f ∙ et in
+      let test : goes_first rule (get_or rows i blank) (get_or rows best blank) ≡ t = sym (goes_in_rows rule rows i best) ∙ ap₂ (λ x y. goes_in rule x y i best) e f ∙ et in
       rw test at (leading_more (h.leads rows e f) (let m : i < length rows = omega arith in m))
 
-  own-test : precedes rule (get_or numbers i 0) (get_or kept i 0) number least ≡ goes_in rule numbers kept i best
-  own-test = rw (h.numbered, h.is)
+  own_test : precedes rule (get_or numbers i 0) (get_or kept i 0) number least ≡ goes_in rule numbers kept i best
+  own_test = rw (h.numbered, h.is)
 
   -- A record that does not go first changes nothing; one that contributes more does not.
-  pub ranked-stay : precedes rule (get_or numbers i 0) (get_or kept i 0) number least ≡ false → RankedSoFar rule numbers kept best number least (i + 1)
+  pub ranked_stay : precedes rule (get_or numbers i 0) (get_or kept i 0) number least ≡ false → RankedSoFar rule numbers kept best number least (i + 1)
   unfolding pick
-  ranked-stay no-first =
+  ranked_stay no_first =
       record {
         part = omega arith;
         inside = omega (arith, h.inside);
         numbered = h.numbered;
         is = h.is;
-        leads = next-leads false (sym own-test ∙ no-first);
+        leads = next_leads false (sym own_test ∙ no_first);
       }
 
-  pub ranked-skip : least < get_or kept i 0 → RankedSoFar rule numbers kept best number least (i + 1)
-  ranked-skip more = ranked-stay (sym (first_more rule (ranked_row (get_or numbers i 0) (get_or kept i 0)) (ranked_row number least) (omega arith) (λ e. omega arith)))
+  pub ranked_skip : least < get_or kept i 0 → RankedSoFar rule numbers kept best number least (i + 1)
+  ranked_skip more = ranked_stay (sym (first_more rule (ranked_row (get_or numbers i 0) (get_or kept i 0)) (ranked_row number least) (omega arith) (λ e. omega arith)))
 
-  pub ranked-first : precedes rule (get_or numbers i 0) (get_or kept i 0) number least ≡ true → RankedSoFar rule numbers kept i (get_or numbers i 0) (get_or kept i 0) (i + 1)
+  pub ranked_first : precedes rule (get_or numbers i 0) (get_or kept i 0) number least ≡ true → RankedSoFar rule numbers kept i (get_or numbers i 0) (get_or kept i 0) (i + 1)
   unfolding pick
-  ranked-first is-first =
+  ranked_first is-first =
       record {
         part = omega arith;
         inside = omega arith;
         numbered = refl;
         is = refl;
-        leads = next-leads true (sym own-test ∙ is-first);
+        leads = next_leads true (sym own_test ∙ is-first);
       }
 
-pub ranked-end : {rule : ℕ} {numbers kept : List ℕ} {best number least i : ℕ} → RankedSoFar rule numbers kept best number least i → length numbers ≤ i → (best < length numbers) × LeastAt rule numbers kept best
-ranked-end {rule} {numbers} {kept} {best} {number} {least} {i} h l =
+pub ranked_end : {rule : ℕ} {numbers kept : List ℕ} {best number least i : ℕ} → RankedSoFar rule numbers kept best number least i → length numbers ≤ i → (best < length numbers) × LeastAt rule numbers kept best
+ranked_end {rule} {numbers} {kept} {best} {number} {least} {i} h l =
     let part : i ≤ length numbers = h.part in
     let inside : best < i = h.inside in (
       omega arith,

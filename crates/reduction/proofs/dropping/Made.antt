@@ -25,35 +25,35 @@ use Rattle.corners.specs.Updating.{Scratch}
 use Rattle.reduction.specs.Columns.{closed, LeastNoted, RowsInColumns, InColumns, GapClosed, Droppable, Recounting}
 use Rattle.reduction.proofs.columns.Ranking.{number_in, kept_in}
 use Rattle.reduction.proofs.columns.Records.{row_in}
-use Rattle.reduction.proofs.columns.Dropping.{sound-archive, numbers_after, points-after, kept-after, loss-is, sum-after}
+use Rattle.reduction.proofs.columns.Dropping.{sound_archive, numbers_after, points_after, kept_after, loss_is, sum_after}
 
 -- Columns are at least as long as the archive.
 pub record Room (n : ℕ) (numbers : List ℕ) (coordinates : List (List ℕ)) (kept : List ℕ) : Type 0 where
-  pub of-numbers : n ≤ length numbers
-  pub of-points : n ≤ length coordinates
-  pub of-kept : n ≤ length kept
+  pub of_numbers : n ≤ length numbers
+  pub of_points : n ≤ length coordinates
+  pub of_kept : n ≤ length kept
 
 pub room : {rows : List Row} {n : ℕ} {numbers : List ℕ} {coordinates : List (List ℕ)} {kept : List ℕ} → RowsInColumns rows n numbers coordinates kept → Room n numbers coordinates kept
 room {rows} {n} {numbers} {coordinates} {kept} h =
     let many : length rows ≡ n = h.many in
     record {
-      of-numbers = let e : length (take n numbers) ≡ length rows = ap length h.numbered ∙ length_column 0 rows in omega (arith, length-take n numbers);
-      of-points = let e : length (take n coordinates) ≡ length rows = ap length h.placed ∙ length_points rows in omega (arith, length-take n coordinates);
-      of-kept = let e : length (take n kept) ≡ length rows = ap length h.contributed ∙ length_column 4 rows in omega (arith, length-take n kept);
+      of_numbers = let e : length (take n numbers) ≡ length rows = ap length h.numbered ∙ length_column 0 rows in omega (arith, length-take n numbers);
+      of_points = let e : length (take n coordinates) ≡ length rows = ap length h.placed ∙ length_points rows in omega (arith, length-take n coordinates);
+      of_kept = let e : length (take n kept) ≡ length rows = ap length h.contributed ∙ length_column 4 rows in omega (arith, length-take n kept);
     }
 
 -- A bound on every number holds with one left out.
-each-closed : (k : ℕ) (l : List ℕ) (limit : ℕ) → Each l limit → Each (closed k l) limit
+each_closed : (k : ℕ) (l : List ℕ) (limit : ℕ) → Each l limit → Each (closed k l) limit
 unfolding closed
-each-closed zero [] limit h i = zero-le
-each-closed zero (x ∷ l) limit h i = h (suc i)
-each-closed (suc k) [] limit h i = zero-le
-each-closed (suc k) (x ∷ l) limit h zero = h 0
-each-closed (suc k) (x ∷ l) limit h (suc i) = each-closed k l limit (λ j. h (suc j)) i
+each_closed zero [] limit h i = zero-le
+each_closed zero (x ∷ l) limit h i = h (suc i)
+each_closed (suc k) [] limit h i = zero-le
+each_closed (suc k) (x ∷ l) limit h zero = h 0
+each_closed (suc k) (x ∷ l) limit h (suc i) = each_closed k l limit (λ j. h (suc j)) i
 
-reference-kept : (rule : ℕ) (a : Archive) → reference_of (dropped rule a) ≡ reference_of a
+reference_kept : (rule : ℕ) (a : Archive) → reference_of (dropped rule a) ≡ reference_of a
 unfolding dropped removed
-reference-kept rule a = refl
+reference_kept rule a = refl
 
 -- The drop of the record at place k, on the columns.
 module _
@@ -69,79 +69,79 @@ module _
     least : get_or a.rows k blank ≡ least_row rule a.rows
     least = c.least a.rows (sym h.held.numbered) (sym h.held.contributed)
 
-    u-is : u ≡ point (get_or a.rows k blank).trial
-    u-is = e ∙ (row_in k h.held l).point-is
+    u_is : u ≡ point (get_or a.rows k blank).trial
+    u_is = e ∙ (row_in k h.held l).point_is
 
     keeps : DropKeeps rule a
-    keeps = drop_keeps rule a (sound-archive a d) d.counted (omega (arith, inside))
+    keeps = drop_keeps rule a (sound_archive a d) d.counted (omega (arith, inside))
 
-    points-left : take (n - 1) coordinates' ≡ held_points (dropped rule a)
-    points-left = g.placed ∙ ap (closed k) h.held.placed ∙ sym (points-after rule a k d inside least)
+    points_left : take (n - 1) coordinates' ≡ held_points (dropped rule a)
+    points_left = g.placed ∙ ap (closed k) h.held.placed ∙ sym (points_after rule a k d inside least)
 
     pub recount_ready : Room n numbers coordinates kept → length coordinates' ≡ length coordinates → length kept' ≡ length kept → Recounting coordinates' kept' (n - 1) u reference
     recount_ready r lp lk =
         let bounds = shape_bounds a.shape d.shaped in
         record {
-          points_room = let s : n ≤ length coordinates = r.of-points in omega arith;
-          kept_room = let s : n ≤ length kept = r.of-kept in omega arith;
-          sorted = subst Sorted (sym points-left) (sound_sorted (dropped rule a) keeps.sound);
-          small = subst Small (sym (e ∙ sym (get_or-take n coordinates k [] l) ∙ ap (λ x. get_or x k []) h.held.placed)) ((sound_sorted a (sound-archive a d)).small k);
+          points_room = let s : n ≤ length coordinates = r.of_points in omega arith;
+          kept_room = let s : n ≤ length kept = r.of_kept in omega arith;
+          sorted = subst Sorted (sym points_left) (sound_sorted (dropped rule a) keeps.sound);
+          small = subst Small (sym (e ∙ sym (get_or-take n coordinates k [] l) ∙ ap (λ x. get_or x k []) h.held.placed)) ((sound_sorted a (sound_archive a d)).small k);
           reference_small = subst Small h.referred bounds.reference_high;
           boxed = subst (λ r. box r ≤ 1152921504606846976) h.referred (box_bound a.shape bounds);
           fits =
               subst (λ x. Each x 1152921504606846976) (sym (g.contributed ∙ ap (closed k) h.held.contributed))
-              (each-closed k (column 4 a.rows) 1152921504606846976 (λ i. le_trans (column_each a.shape a.rows (sound-archive a d).rows_fit i) (box_bound a.shape bounds)));
+              (each_closed k (column 4 a.rows) 1152921504606846976 (λ i. le_trans (column_each a.shape a.rows (sound_archive a d).rows_fit i) (box_bound a.shape bounds)));
         }
 
     gain_is : (r : ℕ) → r ≡ gain reference (take (n - 1) coordinates') u → r ≡ gain (reference_of a) (closed k (held_points a)) (point (get_or a.rows k blank).trial)
     gain_is r q =
         q
         ∙ ap₂ (λ x y. gain x y u) (sym h.referred) (g.placed ∙ ap (closed k) h.held.placed)
-        ∙ ap (gain (reference_of a) (closed k (held_points a))) u-is
+        ∙ ap (gain (reference_of a) (closed k (held_points a))) u_is
 
-    pub gain-within : (r : ℕ) → r ≡ gain reference (take (n - 1) coordinates') u → r ≤ total
-    gain-within r q =
-        let loss : r ≡ removal_loss a (leaving rule a) = gain_is r q ∙ sym (loss-is rule a k d inside least) in
-        let falls = total_removed a (leaving rule a) (split (leaving rule a) a.rows keeps.known (sound-archive a d).apart) in
+    pub gain_within : (r : ℕ) → r ≡ gain reference (take (n - 1) coordinates') u → r ≤ total
+    gain_within r q =
+        let loss : r ≡ removal_loss a (leaving rule a) = gain_is r q ∙ sym (loss_is rule a k d inside least) in
+        let falls = total_removed a (leaving rule a) (split (leaving rule a) a.rows keeps.known (sound_archive a d).apart) in
         let sum = d.counted.sum in
         let totalled : a.sum ≡ total = h.totalled in
         omega arith
 
-    kept-left : (kept'' : List ℕ) → take (n - 1) kept'' ≡ moved (λ v s. v + s) (take (n - 1) kept') (joints reference (take (n - 1) coordinates') u) → take (n - 1) kept'' ≡ column 4 (dropped rule a).rows
-    kept-left kept'' q =
+    kept_left : (kept'' : List ℕ) → take (n - 1) kept'' ≡ moved (λ v s. v + s) (take (n - 1) kept') (joints reference (take (n - 1) coordinates') u) → take (n - 1) kept'' ≡ column 4 (dropped rule a).rows
+    kept_left kept'' q =
         q
         ∙ ap₂ (moved (λ v s. v + s)) (g.contributed ∙ ap (closed k) h.held.contributed)
-        (ap₂ (λ x y. joints x y u) (sym h.referred) (g.placed ∙ ap (closed k) h.held.placed) ∙ ap (joints (reference_of a) (closed k (held_points a))) u-is)
-        ∙ sym (kept-after rule a k d inside least)
+        (ap₂ (λ x y. joints x y u) (sym h.referred) (g.placed ∙ ap (closed k) h.held.placed) ∙ ap (joints (reference_of a) (closed k (held_points a))) u_is)
+        ∙ sym (kept_after rule a k d inside least)
 
-    number-noted : get_or (take n numbers) k 0 ≡ (least_row rule a.rows).trial.number
-    number-noted = ap (λ x. get_or x k 0) h.held.numbered ∙ number_in a.rows k ∙ ap (λ r. r.trial.number) least
+    number_noted : get_or (take n numbers) k 0 ≡ (least_row rule a.rows).trial.number
+    number_noted = ap (λ x. get_or x k 0) h.held.numbered ∙ number_in a.rows k ∙ ap (λ r. r.trial.number) least
 
-    kept-noted : get_or (take n kept) k 0 ≡ (least_row rule a.rows).kept
-    kept-noted = ap (λ x. get_or x k 0) h.held.contributed ∙ kept_in a.rows k ∙ ap (λ r. r.kept) least
+    kept_noted : get_or (take n kept) k 0 ≡ (least_row rule a.rows).kept
+    kept_noted = ap (λ x. get_or x k 0) h.held.contributed ∙ kept_in a.rows k ∙ ap (λ r. r.kept) least
 
-    pub drop-made : (r : ℕ) (kept'' : List ℕ) → r ≡ gain reference (take (n - 1) coordinates') u
+    pub drop_made : (r : ℕ) (kept'' : List ℕ) → r ≡ gain reference (take (n - 1) coordinates') u
         → take (n - 1) kept'' ≡ moved (λ v s. v + s) (take (n - 1) kept') (joints reference (take (n - 1) coordinates') u)
         → InColumns (dropped rule a) reference (n - 1) (total - r) numbers' coordinates' kept'' × (after ≡ put log at (note rule a))
     unfolding note
-    drop-made r kept'' q m = (
+    drop_made r kept'' q m = (
       record {
-        referred = reference-kept rule a ∙ h.referred;
-        totalled = sum-after rule a k d inside least ∙ ap₂ (λ x y. x - y) h.totalled (sym (gain_is r q));
+        referred = reference_kept rule a ∙ h.referred;
+        totalled = sum_after rule a k d inside least ∙ ap₂ (λ x y. x - y) h.totalled (sym (gain_is r q));
         held =
             record {
               many = let many : length a.rows ≡ n = h.held.many in let count : length a.rows ≡ suc (length (dropped rule a).rows) = keeps.count in omega arith;
               numbered = g.numbered ∙ ap (closed k) h.held.numbered ∙ sym (numbers_after rule a k d inside least);
-              placed = points-left;
-              contributed = kept-left kept'' m;
+              placed = points_left;
+              contributed = kept_left kept'' m;
             };
       },
-      c.noted ∙ ap₂ (λ x y. put log at (x ∷ y ∷ [])) number-noted kept-noted,
+      c.noted ∙ ap₂ (λ x y. put log at (x ∷ y ∷ [])) number_noted kept_noted,
     )
 
 -- Room for n is room for fewer.
-pub room-less : {n : ℕ} {corners : List (List ℕ)} {places line counts : List ℕ} → Scratch n corners places line counts → Scratch (n - 1) corners places line counts
-room-less {n} {corners} {places} {line} {counts} s =
+pub room_less : {n : ℕ} {corners : List (List ℕ)} {places line counts : List ℕ} → Scratch n corners places line counts → Scratch (n - 1) corners places line counts
+room_less {n} {corners} {places} {line} {counts} s =
     record {
       corners_room = let r : n ≤ length corners = s.corners_room in omega arith;
       places_room = let r : n ≤ length places = s.places_room in omega arith;

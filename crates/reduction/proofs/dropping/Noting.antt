@@ -12,13 +12,13 @@ module _ (numbers kept : List ℕ) (n : ℕ) (p : n ≤ length numbers) where
   pub rankable : 0 < n → n ≤ length kept → (length (take n kept) ≡ length (take n numbers)) × (0 < length (take n numbers))
   rankable l q = (length-take-le n kept q ∙ sym (length-take-le n numbers p), omega (arith, length-take-le n numbers p))
 
-  pub place-below : (k : ℕ) → k < length (take n numbers) → k < n
-  place-below k l = omega (arith, length-take-le n numbers p)
+  pub place_below : (k : ℕ) → k < length (take n numbers) → k < n
+  place_below k l = omega (arith, length-take-le n numbers p)
 
-  pub least-noted : (rule k at : ℕ) (log after : List ℕ) → (k < length (take n numbers)) × LeastAt rule (take n numbers) (take n kept) k
+  pub least_noted : (rule k at : ℕ) (log after : List ℕ) → (k < length (take n numbers)) × LeastAt rule (take n numbers) (take n kept) k
       → after ≡ put log at (get_or numbers k 0 ∷ get_or kept k 0 ∷ []) → (k < n) × LeastNoted rule (take n numbers) (take n kept) k log at after
-  least-noted rule k at log after l e =
-      let low : k < n = place-below k l.0 in (
+  least_noted rule k at log after l e =
+      let low : k < n = place_below k l.0 in (
         low,
         record {
           least = l.1;

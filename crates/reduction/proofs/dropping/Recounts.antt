@@ -17,22 +17,22 @@ use Rattle.corners.proofs.Updates.{points_many, first_ready, some_fit}
 use Rattle.reduction.specs.Columns.{Recounting}
 
 -- No joint count is above the box.
-joints-part : (r : List ℕ) (all ts : List (List ℕ)) (u : List ℕ) → Each (map (λ t. joint r all u t) ts) (box r)
-joints-part r all [] u i = zero-le
-joints-part r all (t ∷ ts) u zero = joint_le_box r all u t
-joints-part r all (t ∷ ts) u (suc i) = joints-part r all ts u i
+joints_part : (r : List ℕ) (all ts : List (List ℕ)) (u : List ℕ) → Each (map (λ t. joint r all u t) ts) (box r)
+joints_part r all [] u i = zero-le
+joints_part r all (t ∷ ts) u zero = joint_le_box r all u t
+joints_part r all (t ∷ ts) u (suc i) = joints_part r all ts u i
 
-joints-each : (r : List ℕ) (ts : List (List ℕ)) (u : List ℕ) → Each (joints r ts u) (box r)
+joints_each : (r : List ℕ) (ts : List (List ℕ)) (u : List ℕ) → Each (joints r ts u) (box r)
 unfolding joints
-joints-each r ts u = joints-part r (u ∷ ts) ts u
+joints_each r ts u = joints_part r (u ∷ ts) ts u
 
 -- What the update asks, what raising asks, and what it leaves.
 module _ {points : List (List ℕ)} {kept : List ℕ} {m : ℕ} {u reference : List ℕ} (h : Recounting points kept m u reference) where
-  kept-many : length (take m kept) ≡ length (take m points)
-  kept-many = length-take-le m kept h.kept_room ∙ sym (points_many points m h.points_room)
+  kept_many : length (take m kept) ≡ length (take m points)
+  kept_many = length-take-le m kept h.kept_room ∙ sym (points_many points m h.points_room)
 
-  pub update-ready : {corners : List (List ℕ)} {places line counts : List ℕ} → Scratch m corners places line counts → Updating (take m points) u reference corners places line counts
-  update-ready s = first_ready points m h.points_room h.sorted h.small h.reference_small s
+  pub update_ready : {corners : List (List ℕ)} {places line counts : List ℕ} → Scratch m corners places line counts → Updating (take m points) u reference corners places line counts
+  update_ready s = first_ready points m h.points_room h.sorted h.small h.reference_small s
 
   -- A lent slice, as long as before, has room for those that moved.
   pub room_for : {all places counts : List ℕ} {some : ℕ} (old now : List ℕ) → Sparse (length (take m points)) all places counts some → m ≤ length old → length now ≡ length old → some ≤ length now
@@ -42,17 +42,17 @@ module _ {points : List (List ℕ)} {kept : List ℕ} {m : ℕ} {u reference : L
   long_enough old now r e = omega arith
 
   module _ (places counts : List ℕ) (some : ℕ) where
-    pub recount-raises : m ≤ length places → m ≤ length counts → Sparse (length (take m points)) (joints reference (take m points) u) places counts some
+    pub recount_raises : m ≤ length places → m ≤ length counts → Sparse (length (take m points)) (joints reference (take m points) u) places counts some
         → Placed (length (take m kept)) (take some places) (take some counts) × (Each (take m kept) 1152921504606846976 × Each (take some counts) 1152921504606846976)
-    recount-raises p q s =
+    recount_raises p q s =
         let few : some ≤ m = some_fit points m h.points_room s in
         let placed : Placed (length (take m points)) (take some places) (take some counts) = sparse_placed s (omega arith) (omega arith) in (
-          rw kept-many placed,
-          (h.fits, counts_low 1152921504606846976 placed (subst (λ all. Each all 1152921504606846976) s.is_spread (λ i. le_trans (joints-each reference (take m points) u i) h.boxed))),
+          rw kept_many placed,
+          (h.fits, counts_low 1152921504606846976 placed (subst (λ all. Each all 1152921504606846976) s.is_spread (λ i. le_trans (joints_each reference (take m points) u i) h.boxed))),
         )
 
-    pub raised-front : (after behind : List ℕ) → length after ≡ length (take m kept) → Sparse (length (take m points)) (joints reference (take m points) u) places counts some
+    pub raised_front : (after behind : List ℕ) → length after ≡ length (take m kept) → Sparse (length (take m points)) (joints reference (take m points) u) places counts some
         → after ≡ moved (λ v s. v + s) (take m kept) (amounts_at (length (take m kept)) (take some places) (take some counts))
         → take m (after ++ behind) ≡ moved (λ v s. v + s) (take m kept) (joints reference (take m points) u)
-    raised-front after behind long s e =
-        take_at after behind m (long ∙ kept-many ∙ points_many points m h.points_room) ∙ e ∙ moved_sparse s (λ v s. v + s) (take m kept) kept-many
+    raised_front after behind long s e =
+        take_at after behind m (long ∙ kept_many ∙ points_many points m h.points_room) ∙ e ∙ moved_sparse s (λ v s. v + s) (take m kept) kept_many

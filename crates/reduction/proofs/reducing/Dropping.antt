@@ -12,32 +12,32 @@ use Rattle.words.specs.Archive.{Archive}
 use Rattle.calls.specs.Calls.{removed, dropped, note, after_drops, notes}
 use Rattle.corners.specs.Updating.{Scratch}
 use Rattle.reduction.specs.Columns.{InColumns, Droppable, DropReady}
-use Rattle.reduction.proofs.columns.Dropping.{droppable-after}
+use Rattle.reduction.proofs.columns.Dropping.{droppable_after}
 
 -- One drop more, at the end.
-drops-more : (rule i : ℕ) (a : Archive) → after_drops rule (suc i) a ≡ dropped rule (after_drops rule i a)
+drops_more : (rule i : ℕ) (a : Archive) → after_drops rule (suc i) a ≡ dropped rule (after_drops rule i a)
 unfolding after_drops
-drops-more rule zero a = refl
-drops-more rule (suc i) a = drops-more rule i (dropped rule a)
+drops_more rule zero a = refl
+drops_more rule (suc i) a = drops_more rule i (dropped rule a)
 
-notes-more : (rule i : ℕ) (a : Archive) → notes rule (suc i) a ≡ notes rule i a ++ note rule (after_drops rule i a)
+notes_more : (rule i : ℕ) (a : Archive) → notes rule (suc i) a ≡ notes rule i a ++ note rule (after_drops rule i a)
 unfolding notes after_drops
-notes-more rule zero a = append-nil (note rule a)
-notes-more rule (suc i) a =
-    ap (λ l. note rule a ++ l) (notes-more rule i (dropped rule a)) ∙ sym (append_assoc (note rule a) (notes rule i (dropped rule a)) (note rule (after_drops rule i (dropped rule a))))
+notes_more rule zero a = append-nil (note rule a)
+notes_more rule (suc i) a =
+    ap (λ l. note rule a ++ l) (notes_more rule i (dropped rule a)) ∙ sym (append_assoc (note rule a) (notes rule i (dropped rule a)) (note rule (after_drops rule i (dropped rule a))))
 
-length-notes : (rule i : ℕ) (a : Archive) → length (notes rule i a) ≡ 2 * i
+length_notes : (rule i : ℕ) (a : Archive) → length (notes rule i a) ≡ 2 * i
 unfolding notes note
-length-notes rule zero a = refl
-length-notes rule (suc i) a =
-    let later : length (notes rule i (dropped rule a)) ≡ 2 * i = length-notes rule i (dropped rule a) in
+length_notes rule zero a = refl
+length_notes rule (suc i) a =
+    let later : length (notes rule i (dropped rule a)) ≡ 2 * i = length_notes rule i (dropped rule a) in
     omega arith
 
 pub some_left : (i drops n : ℕ) → i < drops → drops ≤ n → 0 < n - i
 some_left i drops n l m = omega arith
 
-pub fewer-left : (i drops : ℕ) → i < drops → drops - (i + 1) < drops - i
-fewer-left i drops l = omega arith
+pub fewer_left : (i drops : ℕ) → i < drops → drops - (i + 1) < drops - i
+fewer_left i drops l = omega arith
 
 -- Drops leave the shape.
 pub drops_shape : (rule i : ℕ) (a : Archive) → (after_drops rule i a).shape ≡ a.shape
@@ -64,22 +64,22 @@ module _ (rule : ℕ) (reference : List ℕ) (n total : ℕ) (numbers₀ : List 
     pub part : i ≤ drops
     pub made : (a : Archive) → InColumns a reference n total numbers₀ coordinates₀ kept₀ → Droppable a → Dropped rule a reference n i left numbers coordinates kept log₀ log
     pub scratch : Fixed corners places line counts
-    pub numbers-long : length numbers ≡ length numbers₀
-    pub coordinates-long : length coordinates ≡ length coordinates₀
-    pub kept-long : length kept ≡ length kept₀
-    pub log-long : length log ≡ length log₀
+    pub numbers_long : length numbers ≡ length numbers₀
+    pub coordinates_long : length coordinates ≡ length coordinates₀
+    pub kept_long : length kept ≡ length kept₀
+    pub log_long : length log ≡ length log₀
 
-  pub drops-none : (drops : ℕ) (corners : List (List ℕ)) (places line counts : List ℕ) → Fixed corners places line counts → DropsMade drops 0 total numbers₀ coordinates₀ kept₀ log₀ corners places line counts
+  pub drops_none : (drops : ℕ) (corners : List (List ℕ)) (places line counts : List ℕ) → Fixed corners places line counts → DropsMade drops 0 total numbers₀ coordinates₀ kept₀ log₀ corners places line counts
   unfolding after_drops notes
-  drops-none drops corners places line counts s =
+  drops_none drops corners places line counts s =
       record {
         part = omega arith;
         made = λ a h d. record { holds = subst (λ m. InColumns a reference m total numbers₀ coordinates₀ kept₀) (sym (sub-zero n)) h; droppable = d; noted = sym (put_none log₀ 0) };
         scratch = s;
-        numbers-long = refl;
-        coordinates-long = refl;
-        kept-long = refl;
-        log-long = refl;
+        numbers_long = refl;
+        coordinates_long = refl;
+        kept_long = refl;
+        log_long = refl;
       }
 
 module _
@@ -87,13 +87,13 @@ module _
     {drops i left : ℕ} {numbers : List ℕ} {coordinates : List (List ℕ)} {kept log : List ℕ} {corners : List (List ℕ)} {places line counts : List ℕ}
     (h : DropsMade rule reference n total numbers₀ coordinates₀ kept₀ log₀ drops i left numbers coordinates kept log corners places line counts)
   where
-    pub drop-ready : DropReady reference n total numbers₀ coordinates₀ kept₀ → DropReady reference (n - i) left numbers coordinates kept
-    drop-ready r =
+    pub drop_ready : DropReady reference n total numbers₀ coordinates₀ kept₀ → DropReady reference (n - i) left numbers coordinates kept
+    drop_ready r =
         let one = h.made r.archive r.inside r.droppable in
         record { archive = after_drops rule i r.archive; inside = one.holds; droppable = one.droppable }
 
-    pub drop-room : n ≤ 512 → Scratch (n - i) corners places line counts
-    drop-room few =
+    pub drop_room : n ≤ 512 → Scratch (n - i) corners places line counts
+    drop_room few =
         let s : Fixed corners places line counts = h.scratch in
         record {
           corners_room = let r : length corners ≡ 512 = s.corners_long in omega arith;
@@ -102,24 +102,24 @@ module _
           counts_room = let r : length counts ≡ 512 = s.counts_long in omega arith;
         }
 
-    pub log-room : i < drops → 2 * drops ≤ length log₀ → 2 * i + 2 ≤ length log
-    log-room l r = let long : length log ≡ length log₀ = h.log-long in omega arith
+    pub log_room : i < drops → 2 * drops ≤ length log₀ → 2 * i + 2 ≤ length log
+    log_room l r = let long : length log ≡ length log₀ = h.log_long in omega arith
 
-    pub drops-next : (left' : ℕ) (numbers' : List ℕ) (coordinates' : List (List ℕ)) (kept' log' : List ℕ) (corners' : List (List ℕ)) (places' line' counts' : List ℕ) → i < drops → drops ≤ n → 2 * drops ≤ length log₀
+    pub drops_next : (left' : ℕ) (numbers' : List ℕ) (coordinates' : List (List ℕ)) (kept' log' : List ℕ) (corners' : List (List ℕ)) (places' line' counts' : List ℕ) → i < drops → drops ≤ n → 2 * drops ≤ length log₀
         → ((a : Archive) → InColumns a reference (n - i) left numbers coordinates kept → Droppable a → InColumns (dropped rule a) reference (n - i - 1) left' numbers' coordinates' kept' × (log' ≡ put log (2 * i) (note rule a)))
         → length numbers' ≡ length numbers → length coordinates' ≡ length coordinates → length kept' ≡ length kept → length log' ≡ length log
         → length corners' ≡ length corners → length places' ≡ length places → length line' ≡ length line → length counts' ≡ length counts
         → DropsMade rule reference n total numbers₀ coordinates₀ kept₀ log₀ drops (i + 1) left' numbers' coordinates' kept' log' corners' places' line' counts'
-    drops-next left' numbers' coordinates' kept' log' corners' places' line' counts' l few fits drop ln lp lk ll lc ls li lo =
+    drops_next left' numbers' coordinates' kept' log' corners' places' line' counts' l few fits drop ln lp lk ll lc ls li lo =
         let s : Fixed corners places line counts = h.scratch in
         record {
           part = omega arith;
           made = next;
           scratch = record { corners_long = lc ∙ s.corners_long; places_long = ls ∙ s.places_long; line_long = li ∙ s.line_long; counts_long = lo ∙ s.counts_long };
-          numbers-long = ln ∙ h.numbers-long;
-          coordinates-long = lp ∙ h.coordinates-long;
-          kept-long = lk ∙ h.kept-long;
-          log-long = ll ∙ h.log-long;
+          numbers_long = ln ∙ h.numbers_long;
+          coordinates_long = lp ∙ h.coordinates_long;
+          kept_long = lk ∙ h.kept_long;
+          log_long = ll ∙ h.log_long;
         }
       where
         next : (a : Archive) → InColumns a reference n total numbers₀ coordinates₀ kept₀ → Droppable a → Dropped rule a reference n (i + 1) left' numbers' coordinates' kept' log₀ log'
@@ -128,23 +128,23 @@ module _
             let b = after_drops rule i a in
             let after = drop b one.holds one.droppable in
             let many : length (after_drops rule i a).rows ≡ n - i = one.holds.held.many in
-            let next-is : after_drops rule (i + 1) a ≡ dropped rule b = ap (λ k. after_drops rule k a) (add-one i) ∙ drops-more rule i a in
-            let size : length (notes rule i a) ≡ 2 * i = length-notes rule i a in
+            let next-is : after_drops rule (i + 1) a ≡ dropped rule b = ap (λ k. after_drops rule k a) (add-one i) ∙ drops_more rule i a in
+            let size : length (notes rule i a) ≡ 2 * i = length_notes rule i a in
             record {
               holds =
                   subst (λ x. InColumns x reference (n - (i + 1)) left' numbers' coordinates' kept') (sym next-is)
                   (subst (λ m. InColumns (dropped rule b) reference m left' numbers' coordinates' kept') (let e : n - i - 1 ≡ n - (i + 1) = omega arith in e) after.0);
-              droppable = subst Droppable (sym next-is) (droppable-after rule b one.droppable (let m : 0 < length (after_drops rule i a).rows = omega arith in m));
+              droppable = subst Droppable (sym next-is) (droppable_after rule b one.droppable (let m : 0 < length (after_drops rule i a).rows = omega arith in m));
               noted =
                   after.1
                   ∙ ap₂ (λ x k. put x k (note rule b)) one.noted (let q : 2 * i ≡ 0 + length (notes rule i a) = omega arith in q)
                   ∙ put_then log₀ 0 (notes rule i a) (note rule b) (omega arith)
-                  ∙ ap (put log₀ 0) (sym (ap (λ k. notes rule k a) (add-one i) ∙ notes-more rule i a));
+                  ∙ ap (put log₀ 0) (sym (ap (λ k. notes rule k a) (add-one i) ∙ notes_more rule i a));
             }
 
-    pub drops-end : drops ≤ i → (a : Archive) → InColumns a reference n total numbers₀ coordinates₀ kept₀ → Droppable a
+    pub drops_end : drops ≤ i → (a : Archive) → InColumns a reference n total numbers₀ coordinates₀ kept₀ → Droppable a
         → InColumns (after_drops rule drops a) reference (n - drops) left numbers coordinates kept × (log ≡ put log₀ 0 (notes rule drops a))
-    drops-end l a g d =
+    drops_end l a g d =
         let e : i ≡ drops = (let part : i ≤ drops = h.part in omega arith) in
         let one = h.made a g d in (
           subst (λ k. InColumns (after_drops rule k a) reference (n - k) left numbers coordinates kept) e one.holds,

@@ -21,21 +21,21 @@ refused_all o w log r answer e is =
       noted = ap (λ (x : Outcome). x.log) (sym e);
     }
 
-pub reduce-refused : (w log : List ℕ) (k rule r : ℕ) (answer : Answer) → r ≡ archive_rows w 0 → (r ≡ 0 → ⊥) → answer ≡ record { refusal = r; value = 0 } → MeetsOutcome (reduce w k rule log) answer w log
+pub reduce_refused : (w log : List ℕ) (k rule r : ℕ) (answer : Answer) → r ≡ archive_rows w 0 → (r ≡ 0 → ⊥) → answer ≡ record { refusal = r; value = 0 } → MeetsOutcome (reduce w k rule log) answer w log
 unfolding reduce
-reduce-refused w log k rule r answer e f =
+reduce_refused w log k rule r answer e f =
     refused_all (reduce w k rule log) w log r answer (leaves_refused w log _ r _ _ _ (rows_refused w r (reduce_rows (read w) k rule (length log)) e f) f)
 
-pub reduce-turned : (w log : List ℕ) (k rule r : ℕ) (answer : Answer) → archive_rows w 0 ≡ 0 → r ≡ reduce_rows (read w) k rule (length log) → (r ≡ 0 → ⊥) → answer ≡ record { refusal = r; value = 0 } → MeetsOutcome (reduce w k rule log) answer w log
+pub reduce_turned : (w log : List ℕ) (k rule r : ℕ) (answer : Answer) → archive_rows w 0 ≡ 0 → r ≡ reduce_rows (read w) k rule (length log) → (r ≡ 0 → ⊥) → answer ≡ record { refusal = r; value = 0 } → MeetsOutcome (reduce w k rule log) answer w log
 unfolding reduce
-reduce-turned w log k rule r answer p e f =
+reduce_turned w log k rule r answer p e f =
     refused_all (reduce w k rule log) w log r answer (leaves_refused w log _ r _ _ _ (rows_passed w _ p ∙ sym e) f)
 
-pub reduce-dropped : (w log w' log' : List ℕ) (k rule drops : ℕ) (answer : Answer) → archive_rows w 0 ≡ 0 → reduce_rows (read w) k rule (length log) ≡ 0 → drops ≡ word w 0 - k
+pub reduce_dropped : (w log w' log' : List ℕ) (k rule drops : ℕ) (answer : Answer) → archive_rows w 0 ≡ 0 → reduce_rows (read w) k rule (length log) ≡ 0 → drops ≡ word w 0 - k
     → (w' ≡ layout (after_drops rule drops (read w)) ++ behind w) × (log' ≡ put log 0 (notes rule drops (read w)))
     → answer ≡ record { refusal = 0; value = drops } → MeetsOutcome (reduce w k rule log) answer w' log'
 unfolding reduce
-reduce-dropped w log w' log' k rule drops answer p e d out is =
+reduce_dropped w log w' log' k rule drops answer p e d out is =
     let many : drops ≡ length (read w).rows - k = d ∙ ap (λ n. n - k) (sym (count_rows w)) in
     let o = leaves_done w log _ (length (read w).rows - k) (layout (after_drops rule (length (read w).rows - k) (read w)) ++ behind w) (notes rule (length (read w).rows - k) (read w)) (rows_passed w _ p ∙ e) in
     record {

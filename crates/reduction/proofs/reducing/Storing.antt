@@ -26,20 +26,20 @@ use Rattle.records.proofs.LeaveOut.{leave_none}
 use Rattle.records.proofs.HeldPoints.{sound_in_order}
 use Rattle.records.proofs.Stored
 use Rattle.reduction.specs.Columns.{RowsInColumns, InColumns, Droppable, Storing, Stores}
-use Rattle.reduction.proofs.columns.Dropping.{droppable-archive}
+use Rattle.reduction.proofs.columns.Dropping.{droppable_archive}
 use Rattle.reduction.proofs.dropping.Made.{Room, room}
 use Rattle.reduction.proofs.reducing.Dropping.{drops_shape}
 
 -- A column loaded: the first n words of the slice.
-column-loaded : (field n : ℕ) (rows : List Row) (old now : List ℕ) → length rows ≡ n → now ≡ put old 0 (column field rows) → take n now ≡ column field rows
-column-loaded field n rows old now many e =
+column_loaded : (field n : ℕ) (rows : List Row) (old now : List ℕ) → length rows ≡ n → now ≡ put old 0 (column field rows) → take n now ≡ column field rows
+column_loaded field n rows old now many e =
     ap (take n) (e ∙ put_front old (column field rows))
     ∙ take_at (column field rows) (drop (length (column field rows)) old) n (length_column field rows ∙ many)
 
 -- The columns are those of the archive that the words hold.
 module _ (w : List ℕ) (n : ℕ) (p : archive_rows w 0 ≡ 0) (en : n ≡ word w 0) where
-  many-rows : length (rows_before w n) ≡ n
-  many-rows = length_read_rows n (drop 8 w)
+  many_rows : length (rows_before w n) ≡ n
+  many_rows = length_read_rows n (drop 8 w)
 
   pub loaded : (r numbers₀ numbers kept₀ kept : List ℕ) (m : ℕ) (coordinates₀ coordinates : List (List ℕ)) → r ≡ reference (read_shape w)
       → numbers ≡ put numbers₀ 0 (column 0 (rows_before w n)) → PointsLoaded w n m coordinates₀ coordinates → kept ≡ put kept₀ 0 (column 4 (rows_before w n))
@@ -56,14 +56,14 @@ module _ (w : List ℕ) (n : ℕ) (p : archive_rows w 0 ≡ 0) (en : n ≡ word 
         held =
             record {
               many = size ∙ sym en;
-              numbered = column-loaded 0 n (rows_before w n) numbers₀ numbers many-rows e₀ ∙ ap (column 0) same;
+              numbered = column_loaded 0 n (rows_before w n) numbers₀ numbers many_rows e₀ ∙ ap (column 0) same;
               placed = ap (λ i. take i coordinates) (sym m-is) ∙ l.held ∙ ap (λ rows. points (trials rows)) all;
-              contributed = column-loaded 4 n (rows_before w n) kept₀ kept many-rows e₄ ∙ ap (column 4) same;
+              contributed = column_loaded 4 n (rows_before w n) kept₀ kept many_rows e₄ ∙ ap (column 4) same;
             };
       }
 
-  pub droppable-words : IsCounted (read w) → Droppable (read w)
-  droppable-words c = droppable-archive (read w) (known w p).sound c
+  pub droppable_words : IsCounted (read w) → Droppable (read w)
+  droppable_words c = droppable_archive (read w) (known w p).sound c
 
 -- What writing back asks, and what it leaves.
 module _ (w : List ℕ) (rule drops n : ℕ) {total : ℕ} {r numbers kept : List ℕ} {coordinates : List (List ℕ)} (h : InColumns (after_drops rule drops (read w)) r (n - drops) total numbers coordinates kept) where
@@ -73,8 +73,8 @@ module _ (w : List ℕ) (rule drops n : ℕ) {total : ℕ} {r numbers kept : Lis
     down : DropsDown rule drops (read w)
     down = drops_down rule drops (read w) (known w p).sound c (omega (arith, count_rows w))
 
-    pub left-in-order : InOrder (take (n - drops) coordinates)
-    left-in-order = rw h.held.placed (sound_in_order (after_drops rule drops (read w)) down.sound)
+    pub left_in_order : InOrder (take (n - drops) coordinates)
+    left_in_order = rw h.held.placed (sound_in_order (after_drops rule drops (read w)) down.sound)
 
     pub stores : (size : ℕ) → size ≡ front (take (n - drops) coordinates) → Stores w (after_drops rule drops (read w)) (n - drops) total size numbers coordinates kept
     stores size e =
@@ -92,9 +92,9 @@ module _ (w : List ℕ) (rule drops n : ℕ) {total : ℕ} {r numbers kept : Lis
         passes = p;
         counted = e;
         fewer = omega arith;
-        numbers_room = s.of-numbers;
-        points_room = s.of-points;
-        kept_room = s.of-kept;
+        numbers_room = s.of_numbers;
+        points_room = s.of_points;
+        kept_room = s.of_kept;
       }
 
 -- Room for the records, for the zeros behind them and for the header.
@@ -102,20 +102,20 @@ module _ {w : List ℕ} {n m : ℕ} {numbers kept : List ℕ} {coordinates : Lis
   whole : 8 + 5 * n ≤ length w
   whole = let counted : n ≡ word w 0 = h.counted in omega (arith, (known w h.passes).records_long)
 
-  pub records-room : 8 + 5 * m ≤ length w
-  records-room = let fewer : m ≤ n = h.fewer in omega (arith, whole)
+  pub records_room : 8 + 5 * m ≤ length w
+  records_room = let fewer : m ≤ n = h.fewer in omega (arith, whole)
 
-  pub zeros-room : (w₁ : List ℕ) → length w₁ ≡ length w → 8 + 5 * m + 5 * (n - m) ≤ length w₁
-  zeros-room w₁ e = let fewer : m ≤ n = h.fewer in omega (arith, whole)
+  pub zeros_room : (w₁ : List ℕ) → length w₁ ≡ length w → 8 + 5 * m + 5 * (n - m) ≤ length w₁
+  zeros_room w₁ e = let fewer : m ≤ n = h.fewer in omega (arith, whole)
 
-  pub header-room : (w₁ w₂ : List ℕ) → length w₁ ≡ length w → length w₂ ≡ length w₁ → 8 ≤ length w₂
-  header-room w₁ w₂ e f = omega (arith, whole)
+  pub header_room : (w₁ w₂ : List ℕ) → length w₁ ≡ length w → length w₂ ≡ length w₁ → 8 ≤ length w₂
+  header_room w₁ w₂ e f = omega (arith, whole)
 
-  pub zeros-fit : 5 * (n - m) ≤ 2560
-  zeros-fit = let counted : n ≡ word w 0 = h.counted in omega (arith, (known w h.passes).few)
+  pub zeros_fit : 5 * (n - m) ≤ 2560
+  zeros_fit = let counted : n ≡ word w 0 = h.counted in omega (arith, (known w h.passes).few)
 
-pub stored-long : (w w₁ w₂ : List ℕ) (m total size : ℕ) → length w₁ ≡ length w → length w₂ ≡ length w₁ → length (set (set (set w₂ 0 m) 5 total) 6 size) ≡ length w
-stored-long w w₁ w₂ m total size e f = length-set (set (set w₂ 0 m) 5 total) 6 size ∙ length-set (set w₂ 0 m) 5 total ∙ length-set w₂ 0 m ∙ f ∙ e
+pub stored_long : (w w₁ w₂ : List ℕ) (m total size : ℕ) → length w₁ ≡ length w → length w₂ ≡ length w₁ → length (set (set (set w₂ 0 m) 5 total) 6 size) ≡ length w
+stored_long w w₁ w₂ m total size e f = length-set (set (set w₂ 0 m) 5 total) 6 size ∙ length-set (set w₂ 0 m) 5 total ∙ length-set w₂ 0 m ∙ f ∙ e
 
 pub stored : {w : List ℕ} {n m : ℕ} {numbers kept : List ℕ} {coordinates : List (List ℕ)} (w₁ w₂ w₃ : List ℕ) (total size : ℕ) → Storing w n m numbers coordinates kept
     → ((rows : List Row) → RowsInColumns rows m numbers coordinates kept → w₁ ≡ put w 8 (records rows))

@@ -51,22 +51,22 @@ removing w k p l =
 
 -- The removal's counted amounts.
 module _ {w : List ℕ} {k : ℕ} (p : archive_rows w 0 ≡ 0) (l : k < word w 0) {q places counts : List ℕ} {r : Updated} (here : q ≡ point (row_at w k).trial) (c : CountedJoints w k q places counts r) where
-  rest-rows : (without (read w) (number_at w k)).rows ≡ leave_out k (read w).rows
+  rest_rows : (without (read w) (number_at w k)).rows ≡ leave_out k (read w).rows
   unfolding without
-  rest-rows = (removing w k p l).rest
+  rest_rows = (removing w k p l).rest
 
-  pub loss-counted : r.gain ≡ removal_loss (read w) (number_at w k)
+  pub loss_counted : r.gain ≡ removal_loss (read w) (number_at w k)
   unfolding removal_loss without
-  loss-counted =
-      amounts_gain (without (read w) (number_at w k)) (row_at w k).trial refl rest-rows here c
+  loss_counted =
+      amounts_gain (without (read w) (number_at w k)) (row_at w k).trial refl rest_rows here c
       ∙ ap (λ x. insert_gain (without (read w) (number_at w k)) x.trial) (sym (removing w k p l).gone)
 
-  pub shares-counted : Sparse (word w 0 - 1) (removal_shares w k) places counts r.moved
+  pub shares_counted : Sparse (word w 0 - 1) (removal_shares w k) places counts r.moved
   unfolding without
-  shares-counted =
+  shares_counted =
       subst (λ n. Sparse n (removal_shares w k) places counts r.moved) (removing w k p l).many
-      (subst (λ x. Sparse (length x) (shares (without (read w) (number_at w k)) (row_at w k).trial x) places counts r.moved) rest-rows
-      (amounts_shares (without (read w) (number_at w k)) (row_at w k).trial refl rest-rows here c))
+      (subst (λ x. Sparse (length x) (shares (without (read w) (number_at w k)) (row_at w k).trial x) places counts r.moved) rest_rows
+      (amounts_shares (without (read w) (number_at w k)) (row_at w k).trial refl rest_rows here c))
 
 -- Every joint count is at most the box.
 shares_each : (a : Archive) (t : Trial) (rows : List Row) → Each (shares a t rows) (box_of a)
@@ -75,53 +75,53 @@ shares_each a t [] i = zero-le
 shares_each a t (r ∷ rows) zero = joint_le_box (reference_of a) (point t ∷ held_points a) (point t) (point r.trial)
 shares_each a t (r ∷ rows) (suc i) = shares_each a t rows i
 
-pub kept-each : (w : List ℕ) (k : ℕ) → archive_rows w 0 ≡ 0 → Each (column 4 (leave_out k (read w).rows)) (box_of (read w))
-kept-each w k p = column_each (read w).shape (leave_out k (read w).rows) (left_allowed (read w).shape (read w).rows k (known w p).sound.rows_fit)
+pub kept_each : (w : List ℕ) (k : ℕ) → archive_rows w 0 ≡ 0 → Each (column 4 (leave_out k (read w).rows)) (box_of (read w))
+kept_each w k p = column_each (read w).shape (leave_out k (read w).rows) (left_allowed (read w).shape (read w).rows k (known w p).sound.rows_fit)
 
-pub joints-each : (w : List ℕ) (k : ℕ) → Each (removal_shares w k) (box_of (read w))
+pub joints_each : (w : List ℕ) (k : ℕ) → Each (removal_shares w k) (box_of (read w))
 unfolding without
-joints-each w k = shares_each (without (read w) (number_at w k)) (row_at w k).trial (leave_out k (read w).rows)
+joints_each w k = shares_each (without (read w) (number_at w k)) (row_at w k).trial (leave_out k (read w).rows)
 
 -- So no count at a place is above the box.
-pub placed-low : (w : List ℕ) (k : ℕ) {places counts : List ℕ} → Placed (word w 0 - 1) places counts
+pub placed_low : (w : List ℕ) (k : ℕ) {places counts : List ℕ} → Placed (word w 0 - 1) places counts
     → amounts_at (word w 0 - 1) places counts ≡ removal_shares w k
     → Each counts (box_of (read w))
-placed-low w k h e = counts_low (box_of (read w)) h (subst (λ l. Each l (box_of (read w))) (sym e) (joints-each w k))
+placed_low w k h e = counts_low (box_of (read w)) h (subst (λ l. Each l (box_of (read w))) (sym e) (joints_each w k))
 
 -- What the test of the contributions asks.
-pub low-asked : (w : List ℕ) (k : ℕ) {places counts : List ℕ} (limit : ℕ) → archive_rows w 0 ≡ 0 → limit ≡ box_of (read w) → Placed (word w 0 - 1) places counts
+pub low_asked : (w : List ℕ) (k : ℕ) {places counts : List ℕ} (limit : ℕ) → archive_rows w 0 ≡ 0 → limit ≡ box_of (read w) → Placed (word w 0 - 1) places counts
     → amounts_at (word w 0 - 1) places counts ≡ removal_shares w k
     → Each (column 4 (leave_out k (rows_before w (word w 0)))) limit × Each counts limit
 unfolding read
-low-asked w k {counts = counts} limit p e h s =
-    subst (λ b. Each (column 4 (leave_out k (read w).rows)) b × Each counts b) (sym e) (kept-each w k p, placed-low w k h s)
+low_asked w k {counts = counts} limit p e h s =
+    subst (λ b. Each (column 4 (leave_out k (read w).rows)) b × Each counts b) (sym e) (kept_each w k p, placed_low w k h s)
 
 -- The two ways out of `raised`.
 module _ (w : List ℕ) (k : ℕ) (p : archive_rows w 0 ≡ 0) (l : k < word w 0) {places counts : List ℕ} {r m : ℕ} (lost : r ≡ removal_loss (read w) (number_at w k)) (each : Sparse (word w 0 - 1) (removal_shares w k) places counts m) where
-  pub raised-over : word w 5 < r → RemoveAmounts w k places counts (record { amount = r; places = m; fits = false })
+  pub raised_over : word w 5 < r → RemoveAmounts w k places counts (record { amount = r; places = m; fits = false })
   unfolding remove_overruns either read
-  raised-over h =
+  raised_over h =
       record {
         lost = lost;
         judged = sym (ap not (ap (λ x. either x (exceeds (without (read w) (number_at w k)) (row_of (number_at w k) (read w).rows).trial (others (number_at w k) (read w).rows))) (lt-ltb (word w 5) (removal_loss (read w) (number_at w k)) (let s : word w 5 < removal_loss (read w) (number_at w k) = rw (← lost) h in s))));
         each = each;
       }
 
-  behind-total : r ≤ word w 5 → remove_overruns (read w) (number_at w k) ≡ some_pair (λ v m. ltb (box_of (read w)) (v + m)) (column 4 (leave_out k (read w).rows)) (removal_shares w k)
+  behind_total : r ≤ word w 5 → remove_overruns (read w) (number_at w k) ≡ some_pair (λ v m. ltb (box_of (read w)) (v + m)) (column 4 (leave_out k (read w).rows)) (removal_shares w k)
   unfolding remove_overruns either read without
-  behind-total h =
+  behind_total h =
       ap (λ x. either x (exceeds (without (read w) (number_at w k)) (row_of (number_at w k) (read w).rows).trial (others (number_at w k) (read w).rows))) (le-ltb (word w 5) (removal_loss (read w) (number_at w k)) (let s : removal_loss (read w) (number_at w k) ≤ word w 5 = rw (← lost) h in s))
       ∙ ap₂ (λ x y. exceeds (without (read w) (number_at w k)) x.trial y) (removing w k p l).gone (removing w k p l).rest
       ∙ exceeds_pairs (without (read w) (number_at w k)) (row_at w k).trial (leave_out k (read w).rows)
 
-  pub raised-judged : {limit : ℕ} {b : Bool} → r ≤ word w 5 → limit ≡ box_of (read w)
+  pub raised_judged : {limit : ℕ} {b : Bool} → r ≤ word w 5 → limit ≡ box_of (read w)
       → b ≡ not (some_pair (λ v m. ltb limit (v + m)) (column 4 (leave_out k (rows_before w (word w 0)))) (amounts_at (word w 0 - 1) (take m places) (take m counts)))
       → RemoveAmounts w k places counts (record { amount = r; places = m; fits = b })
   unfolding read
-  raised-judged h e j =
+  raised_judged h e j =
       record {
         lost = lost;
-        judged = j ∙ ap not (ap₂ (λ x ms. some_pair (λ v m. ltb x (v + m)) (column 4 (leave_out k (read w).rows)) ms) e (sym each.is_spread) ∙ sym (behind-total h));
+        judged = j ∙ ap not (ap₂ (λ x ms. some_pair (λ v m. ltb x (v + m)) (column 4 (leave_out k (read w).rows)) ms) e (sym each.is_spread) ∙ sym (behind_total h));
         each = each;
       }
 
@@ -129,5 +129,5 @@ pub box_fits : (w : List ℕ) → archive_rows w 0 ≡ 0 → box_of (read w) ≤
 unfolding read
 box_fits w p = (known w p).box_small
 
-pub limit-fits : (w : List ℕ) (limit : ℕ) → archive_rows w 0 ≡ 0 → limit ≡ box_of (read w) → limit ≤ 1152921504606846976
-limit-fits w limit p e = rw e (box_fits w p)
+pub limit_fits : (w : List ℕ) (limit : ℕ) → archive_rows w 0 ≡ 0 → limit ≡ box_of (read w) → limit ≤ 1152921504606846976
+limit_fits w limit p e = rw e (box_fits w p)

@@ -33,36 +33,36 @@ use Rattle.records.proofs.RowAt.{blank}
 use Rattle.records.specs.declared.amounts.Moved.{Moved}
 use Rattle.removal.specs.Removing.{number_at, removal_shares, RemoveAmounts, RemoveReady}
 use Rattle.records.proofs.MovedAmounts.{raised_rows}
-use Rattle.removal.proofs.removing.Raising.{removing, kept-each, placed-low, box_fits}
+use Rattle.removal.proofs.removing.Raising.{removing, kept_each, placed_low, box_fits}
 
 -- Row 13, or what storing asks.
 module _ {w : List ℕ} {k : ℕ} {places counts : List ℕ} {m : Moved} (h : RemoveAmounts w k places counts m) where
   pub overruns : m.fits ≡ false → remove_overruns (read w) (number_at w k) ≡ true
   overruns e = not-false _ (sym h.judged ∙ e)
 
-  pub fits-box : m.fits ≡ true → remove_overruns (read w) (number_at w k) ≡ false
-  fits-box e = not-true _ (sym h.judged ∙ e)
+  pub fits_box : m.fits ≡ true → remove_overruns (read w) (number_at w k) ≡ false
+  fits_box e = not-true _ (sym h.judged ∙ e)
 
   module _ (p : archive_rows w 0 ≡ 0) where
-    pub places-few : m.places ≤ 512
-    places-few = omega (arith, h.each.few, (known w p).few)
+    pub places_few : m.places ≤ 512
+    places_few = omega (arith, h.each.few, (known w p).few)
 
     pub striking : 512 ≤ length places → 512 ≤ length counts → k < word w 0 → m.fits ≡ true → RemoveReady w k m.amount (take m.places places) (take m.places counts)
     unfolding remove_overruns read
     striking lp lc l e =
-        let within-total : ltb (word w 5) (removal_loss (read w) (number_at w k)) ≡ false = (either_false _ _ (fits-box e)).0 in
+        let within-total : ltb (word w 5) (removal_loss (read w) (number_at w k)) ≡ false = (either_false _ _ (fits_box e)).0 in
         record {
           passes = p;
           inside = l;
           lost = h.lost;
           whole = rw h.lost (ltb-false (word w 5) (removal_loss (read w) (number_at w k)) within-total);
-          placed = sparse_placed h.each (omega (arith, places-few)) (omega (arith, places-few));
+          placed = sparse_placed h.each (omega (arith, places_few)) (omega (arith, places_few));
           each = sym h.each.is_spread;
         }
 
 -- The record at place k struck out.
 record Struck (w w₁ : List ℕ) (k m : ℕ) : Type 0 where
-  left-many : length (leave_out k (read w).rows) ≡ m
+  left_many : length (leave_out k (read w).rows) ≡ m
   fits : 8 + length (records (leave_out k (read w).rows) ++ replicate 5 0) ≤ length w
   left : rows_before w₁ m ≡ leave_out k (read w).rows
 
@@ -80,13 +80,13 @@ struck w w₁ k m h s l e =
     let room : 8 + 5 * word w 1 ≤ length w = h.long in
     let fits : 8 + length (records (leave_out k (read w).rows) ++ replicate 5 0) ≤ length w = omega (arith, length-append (records (leave_out k (read w).rows)) (replicate 5 0)) in
     record {
-      left-many = many;
+      left_many = many;
       fits = fits;
       left = ap (λ x. rows_before x m) e ∙ rows_put w left (replicate 5 0) m fits many;
     }
 
 -- The record struck out, the others' contributions raised, the header written.
-remove-stored : (w w₁ w₂ w₃ vs : List ℕ) (number k m : ℕ) → Passed w → suc m ≡ word w 0 → k < word w 0
+remove_stored : (w w₁ w₂ w₃ vs : List ℕ) (number k m : ℕ) → Passed w → suc m ≡ word w 0 → k < word w 0
     → others number (read w).rows ≡ leave_out k (read w).rows
     → rekept (leave_out k (read w).rows) vs ≡ map (raised (without (read w) number) (row_of number (read w).rows).trial) (leave_out k (read w).rows)
     → w₁ ≡ put w 8 (records (leave_out k (rows_before w (word w 0))) ++ replicate 5 0)
@@ -94,13 +94,13 @@ remove-stored : (w w₁ w₂ w₃ vs : List ℕ) (number k m : ℕ) → Passed w
     → w₃ ≡ set (set (set w₂ 0 m) 5 (word w 5 - removal_loss (read w) number)) 6 0
     → w₃ ≡ layout (unfronted (removed (read w) number)) ++ behind w
 unfolding removed read
-remove-stored w w₁ w₂ w₃ vs number k m h s l out raise e₁ e₂ e₃ =
+remove_stored w w₁ w₂ w₃ vs number k m h s l out raise e₁ e₂ e₃ =
     let a = read w in
     let left : List Row = leave_out k a.rows in
     let rows : List Row = map (raised (without a number) (row_of number a.rows).trial) left in
     let gap = struck w w₁ k m h s l e₁ in
-    let many : length rows ≡ m = length-map left (raised (without a number) (row_of number a.rows).trial) ∙ gap.left-many in
-    let even : length (records rows) ≡ length (records left) = length_records rows ∙ ap (λ n. 5 * n) (many ∙ sym gap.left-many) ∙ sym (length_records left) in
+    let many : length rows ≡ m = length-map left (raised (without a number) (row_of number a.rows).trial) ∙ gap.left_many in
+    let even : length (records rows) ≡ length (records left) = length_records rows ∙ ap (λ n. 5 * n) (many ∙ sym gap.left_many) ∙ sym (length_records left) in
     let within : word w 0 ≤ word w 1 = h.counted in
     let gone : (removed a number).rows ≡ rows = ap (map (raised (without a number) (row_of number a.rows).trial)) out in
     let second : w₂ ≡ put w 8 (records rows ++ replicate 5 0) =
@@ -121,44 +121,44 @@ module _ (w : List ℕ) (k : ℕ) {w₁ : List ℕ} {loss : ℕ} {places counts 
   first : w₁ ≡ put w 8 (records (leave_out k (rows_before w (word w 0))) ++ replicate 5 0)
   first = e₁ ∙ ap (λ i. put w 8 (records (leave_out k (rows_before w i)) ++ replicate 5 0)) en
 
-  left-rows : rows_before w₁ m ≡ leave_out k (read w).rows
-  left-rows = (struck w w₁ k m (passed w h.passes) one_less inside first).left
+  left_rows : rows_before w₁ m ≡ leave_out k (read w).rows
+  left_rows = (struck w w₁ k m (passed w h.passes) one_less inside first).left
 
   -- What raising the contributions left asks.
-  pub raising-asked : Each (column 4 (rows_before w₁ m)) 1152921504606846976 × Each counts 1152921504606846976
-  raising-asked =
+  pub raising_asked : Each (column 4 (rows_before w₁ m)) 1152921504606846976 × Each counts 1152921504606846976
+  raising_asked =
       let high : box_of (read w) ≤ 1152921504606846976 = box_fits w h.passes in (
-        subst (λ l. Each (column 4 l) 1152921504606846976) (sym left-rows) (λ i. le_trans (kept-each w k h.passes i) high),
-        λ i. le_trans (placed-low w k h.placed h.each i) high,
+        subst (λ l. Each (column 4 l) 1152921504606846976) (sym left_rows) (λ i. le_trans (kept_each w k h.passes i) high),
+        λ i. le_trans (placed_low w k h.placed h.each i) high,
       )
 
-  pub removal-stored : (w₂ w₃ : List ℕ)
+  pub removal_stored : (w₂ w₃ : List ℕ)
       → w₂ ≡ put w₁ 8 (records (rekept (rows_before w₁ m) (moved (λ v a. v + a) (column 4 (rows_before w₁ m)) (amounts_at m places counts))))
       → w₃ ≡ set (set (set w₂ 0 m) 5 (word w 5 - loss)) 6 0
       → w₃ ≡ layout (unfronted (removed (read w) (number_at w k))) ++ behind w
-  removal-stored w₂ w₃ e₂ e₃ =
+  removal_stored w₂ w₃ e₂ e₃ =
       let rows = leave_out k (read w).rows in
       let a = without (read w) (number_at w k) in
       let out = removing w k h.passes inside in
       let amounts : amounts_at m places counts ≡ removal_shares w k = ap (λ i. amounts_at i places counts) (em ∙ ap (λ i. i - 1) en) ∙ h.each in
-      remove-stored w w₁ w₂ w₃ _ (number_at w k) k m (passed w h.passes) one_less inside out.rest
-      (ap₂ (λ x y. rekept rows (moved (λ v a. v + a) (column 4 x) y)) left-rows amounts ∙ raised_rows a (row_at w k).trial rows ∙ ap (λ x. map (raised a x.trial) rows) (sym out.gone))
+      remove_stored w w₁ w₂ w₃ _ (number_at w k) k m (passed w h.passes) one_less inside out.rest
+      (ap₂ (λ x y. rekept rows (moved (λ v a. v + a) (column 4 x) y)) left_rows amounts ∙ raised_rows a (row_at w k).trial rows ∙ ap (λ x. map (raised a x.trial) rows) (sym out.gone))
       first e₂
       (e₃ ∙ ap (λ x. set (set (set w₂ 0 m) 5 (word w 5 - x)) 6 0) h.lost)
 
 -- What is stored passes rows 1 to 3, and with the front counted it is the archive with the trial removed.
 module _ (w w₁ : List ℕ) (k : ℕ) (p : archive_rows w 0 ≡ 0) (q : k < word w 0) (f : remove_overruns (read w) (number_at w k) ≡ false) (e : w₁ ≡ layout (unfronted (removed (read w) (number_at w k))) ++ behind w) where
-  known-number : held (number_at w k) (trials (read w).rows) ≡ true
+  known_number : held (number_at w k) (trials (read w).rows) ≡ true
   unfolding read number_at
-  known-number =
+  known_number =
       ap (λ r. held r.trial.number (trials (rows_before w (word w 0)))) (sym (rows_before_at w (word w 0) k blank q))
       ∙ held_at (rows_before w (word w 0)) k blank (omega (arith, count_rows w))
 
   sound : Sound (removed (read w) (number_at w k))
-  sound = removed_sound (read w) (number_at w k) (known w p).sound (record { known = known-number; fits = f })
+  sound = removed_sound (read w) (number_at w k) (known w p).sound (record { known = known_number; fits = f })
 
-  pub removal-passes : archive_rows w₁ 0 ≡ 0
-  removal-passes = Stored.update_passes w w₁ (removed (read w) (number_at w k)) 0 sound (omega arith) e
+  pub removal_passes : archive_rows w₁ 0 ≡ 0
+  removal_passes = Stored.update_passes w w₁ (removed (read w) (number_at w k)) 0 sound (omega arith) e
 
-  pub removal-renewed : (w₂ : List ℕ) → w₂ ≡ layout (renewed (read w₁).shape (read w₁).sum (read w₁).rows) ++ behind w₁ → w₂ ≡ layout (removed (read w) (number_at w k)) ++ behind w
-  removal-renewed w₂ g = Stored.update_renewed w w₁ (removed (read w) (number_at w k)) 0 sound (omega arith) e w₂ g (unfold removed in refl)
+  pub removal_renewed : (w₂ : List ℕ) → w₂ ≡ layout (renewed (read w₁).shape (read w₁).sum (read w₁).rows) ++ behind w₁ → w₂ ≡ layout (removed (read w) (number_at w k)) ++ behind w
+  removal_renewed w₂ g = Stored.update_renewed w w₁ (removed (read w) (number_at w k)) 0 sound (omega arith) e w₂ g (unfold removed in refl)

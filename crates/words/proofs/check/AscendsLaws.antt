@@ -18,8 +18,8 @@ pub record Level (n : ℕ) (a b : List ℕ) (i : ℕ) : Type 0 where
   pub within : i ≤ n
   pub so_far : ascends a b ≡ ascends (drop i a) (drop i b)
 
-pub level-none : (n : ℕ) (a b : List ℕ) → length a ≡ n → length b ≡ n → Level n a b 0
-level-none n a b e f = record { left = e; right = f; within = omega arith; so_far = refl }
+pub level_none : (n : ℕ) (a b : List ℕ) → length a ≡ n → length b ≡ n → Level n a b 0
+level_none n a b e f = record { left = e; right = f; within = omega arith; so_far = refl }
 
 module _ {n : ℕ} {a b : List ℕ} {i : ℕ} (h : Level n a b i) where
   step : i < n → ascends a b ≡ either (ltb (get_or a i 0) (get_or b i 0)) (both (eqb (get_or a i 0) (get_or b i 0)) (ascends (drop (suc i) a) (drop (suc i) b)))
@@ -29,18 +29,18 @@ module _ {n : ℕ} {a b : List ℕ} {i : ℕ} (h : Level n a b i) where
       let o : i < length b = omega arith in
       h.so_far ∙ rw (drop-cons a i 0 m, drop-cons b i 0 o)
 
-  pub level-less : i < n → get_or a i 0 < get_or b i 0 → true ≡ ascends a b
+  pub level_less : i < n → get_or a i 0 < get_or b i 0 → true ≡ ascends a b
   unfolding either
-  level-less l m = sym (step l ∙ rw (lt-ltb (get_or a i 0) (get_or b i 0) m))
+  level_less l m = sym (step l ∙ rw (lt-ltb (get_or a i 0) (get_or b i 0) m))
 
   pub level_more : i < n → get_or b i 0 < get_or a i 0 → false ≡ ascends a b
   unfolding either both
   level_more l m =
       sym (step l ∙ rw (le-ltb (get_or a i 0) (get_or b i 0) (omega arith), ne_eqb (get_or a i 0) (get_or b i 0) (λ e. omega arith)))
 
-  pub level-same : i < n → get_or b i 0 ≤ get_or a i 0 → get_or a i 0 ≤ get_or b i 0 → Level n a b (i + 1)
+  pub level_same : i < n → get_or b i 0 ≤ get_or a i 0 → get_or a i 0 ≤ get_or b i 0 → Level n a b (i + 1)
   unfolding either both
-  level-same l m o =
+  level_same l m o =
       record {
         left = h.left;
         right = h.right;
@@ -48,8 +48,8 @@ module _ {n : ℕ} {a b : List ℕ} {i : ℕ} (h : Level n a b i) where
         so_far = step l ∙ rw (le-ltb (get_or a i 0) (get_or b i 0) m, eq-eqb (get_or a i 0) (get_or b i 0) (omega arith), add-one i);
       }
 
-  pub level-end : n ≤ i → false ≡ ascends a b
+  pub level_end : n ≤ i → false ≡ ascends a b
   unfolding ascends
-  level-end l =
+  level_end l =
       let last : i ≡ length a = omega arith in
       sym (h.so_far ∙ rw (last, drop-length a))

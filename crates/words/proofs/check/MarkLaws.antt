@@ -14,29 +14,29 @@ use lib.Seq.{get_or-set_same, get_or-set_other}
 use borrow.Author.Tests.{eqb-true, eq-eqb}
 use Rattle.words.specs.Table.{marked, Marking}
 
-bit-small : (a : ℕ) → a % 2 ≤ 1
-bit-small a = let small : a % 2 < 2 = mod-lt a (lit< tt) in omega arith
+bit_small : (a : ℕ) → a % 2 ≤ 1
+bit_small a = let small : a % 2 < 2 = mod-lt a (lit< tt) in omega arith
 
-larger-small : (a b : ℕ) → max (a % 2) (b % 2) < 2
-larger-small a b = let le : max (a % 2) (b % 2) ≤ 1 = max-le (bit-small a) (bit-small b) in omega arith
+larger_small : (a b : ℕ) → max (a % 2) (b % 2) < 2
+larger_small a b = let le : max (a % 2) (b % 2) ≤ 1 = max-le (bit_small a) (bit_small b) in omega arith
 
 -- A bit of a disjunction is the larger of the two bits.
-bit-or : (a b s : ℕ) → bit_or a b / 2 ^ s % 2 ≡ max (a / 2 ^ s % 2) (b / 2 ^ s % 2)
-bit-or a b s =
+or_with_bit : (a b s : ℕ) → bit_or a b / 2 ^ s % 2 ≡ max (a / 2 ^ s % 2) (b / 2 ^ s % 2)
+or_with_bit a b s =
     ap (λ n. n % 2) (or_shr a b s ∙ or_step (a / 2 ^ s) (b / 2 ^ s))
-    ∙ digits_mod (bit_or (a / 2 ^ s / 2) (b / 2 ^ s / 2)) (larger-small (a / 2 ^ s) (b / 2 ^ s))
+    ∙ digits_mod (bit_or (a / 2 ^ s / 2) (b / 2 ^ s / 2)) (larger_small (a / 2 ^ s) (b / 2 ^ s))
 
 bit_or_left : (a b s : ℕ) → a / 2 ^ s % 2 ≡ 1 → bit_or a b / 2 ^ s % 2 ≡ 1
-bit_or_left a b s e = bit-or a b s ∙ rw e (max-eq_left (bit-small (b / 2 ^ s)))
+bit_or_left a b s e = or_with_bit a b s ∙ rw e (max-eq_left (bit_small (b / 2 ^ s)))
 
 bit_or_right : (a s : ℕ) → bit_or a (2 ^ s) / 2 ^ s % 2 ≡ 1
-bit_or_right a s = bit-or a (2 ^ s) s ∙ rw (div_self (pow_pos s)) (max-eq_right (bit-small (a / 2 ^ s)))
+bit_or_right a s = or_with_bit a (2 ^ s) s ∙ rw (div_self (pow_pos s)) (max-eq_right (bit_small (a / 2 ^ s)))
 
 -- The word that the code stores at the number's place: the old one with the number's bit.
-abbrev pub with-bit : List ℕ → ℕ → ℕ
-with-bit t n = bit_or (get_or t (n % 65536 / 64) 0) (1 * 2 ^ (n % 64) % 2 ^ 64)
+abbrev pub with_bit : List ℕ → ℕ → ℕ
+with_bit t n = bit_or (get_or t (n % 65536 / 64) 0) (1 * 2 ^ (n % 64) % 2 ^ 64)
 
-pub marking : (t : List ℕ) (n : ℕ) → length t ≡ 1024 → Marking t (set t (n % 65536 / 64) (with-bit t n)) n
+pub marking : (t : List ℕ) (n : ℕ) → length t ≡ 1024 → Marking t (set t (n % 65536 / 64) (with_bit t n)) n
 unfolding marked
 marking t n l =
     record {
@@ -50,15 +50,15 @@ marking t n l =
     one : 1 * 2 ^ (n % 64) % 2 ^ 64 ≡ 2 ^ (n % 64)
     one = shl_exact 1 (n % 64) 64 (lit< tt) (omega arith) ∙ one-mul (2 ^ (n % 64))
 
-    new : get_or (set t (n % 65536 / 64) (with-bit t n)) (n % 65536 / 64) 0 / 2 ^ (n % 64) % 2 ≡ 1
+    new : get_or (set t (n % 65536 / 64) (with_bit t n)) (n % 65536 / 64) 0 / 2 ^ (n % 64) % 2 ≡ 1
     new =
-        rw (get_or-set_same t (n % 65536 / 64) (with-bit t n) 0 inside, one)
+        rw (get_or-set_same t (n % 65536 / 64) (with_bit t n) 0 inside, one)
         (bit_or_right (get_or t (n % 65536 / 64) 0) (n % 64))
 
     stays : (m : ℕ) → get_or t (m % 65536 / 64) 0 / 2 ^ (m % 64) % 2 ≡ 1 → Dec (m % 65536 / 64 ≡ n % 65536 / 64)
-        → get_or (set t (n % 65536 / 64) (with-bit t n)) (m % 65536 / 64) 0 / 2 ^ (m % 64) % 2 ≡ 1
+        → get_or (set t (n % 65536 / 64) (with_bit t n)) (m % 65536 / 64) 0 / 2 ^ (m % 64) % 2 ≡ 1
     stays m e (yes same) =
         let kept : get_or t (n % 65536 / 64) 0 / 2 ^ (m % 64) % 2 ≡ 1 = rw same at e in
-        rw (same, get_or-set_same t (n % 65536 / 64) (with-bit t n) 0 inside)
+        rw (same, get_or-set_same t (n % 65536 / 64) (with_bit t n) 0 inside)
         (bit_or_left (get_or t (n % 65536 / 64) 0) (1 * 2 ^ (n % 64) % 2 ^ 64) (m % 64) kept)
-    stays m e (no differ) = rw (get_or-set_other t (n % 65536 / 64) (m % 65536 / 64) (with-bit t n) 0 differ) e
+    stays m e (no differ) = rw (get_or-set_other t (n % 65536 / 64) (m % 65536 / 64) (with_bit t n) 0 differ) e

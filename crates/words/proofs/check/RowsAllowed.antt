@@ -23,35 +23,35 @@ use Rattle.words.proofs.Reading.{length_read_rows, read_rows_append}
 use Rattle.words.proofs.SoundRows.{trials_append, rows_allowed_append, distinct_snoc, ordered_snoc, sound_rows_part}
 
 -- One record more.
-trials-more : (w : List ℕ) (i : ℕ) → trials (rows_before w (i + 1)) ≡ trials (rows_before w i) ++ ((row_at w i).trial ∷ [])
+trials_more : (w : List ℕ) (i : ℕ) → trials (rows_before w (i + 1)) ≡ trials (rows_before w i) ++ ((row_at w i).trial ∷ [])
 unfolding trials
-trials-more w i = ap trials (rows_before_more w i) ∙ trials_append (rows_before w i) (row_at w i ∷ [])
+trials_more w i = ap trials (rows_before_more w i) ∙ trials_append (rows_before w i) (row_at w i ∷ [])
 
-ordered-more : (w : List ℕ) (i : ℕ) → ordered (trials (rows_before w (i + 1))) ≡ both (ordered (trials (rows_before w i))) (follows w i)
+ordered_more : (w : List ℕ) (i : ℕ) → ordered (trials (rows_before w (i + 1))) ≡ both (ordered (trials (rows_before w i))) (follows w i)
 unfolding ordered follows trials read_rows both
-ordered-more w zero = refl
-ordered-more w (suc i) =
+ordered_more w zero = refl
+ordered_more w (suc i) =
     let t : Trial = (row_at w i).trial in
     let u : Trial = (row_at w (suc i)).trial in
     let last : trials (rows_before w (suc i)) ≡ trials (rows_before w i) ++ (t ∷ []) =
-    ap (λ k. trials (rows_before w k)) (sym (add-one i)) ∙ trials-more w i in
+    ap (λ k. trials (rows_before w k)) (sym (add-one i)) ∙ trials_more w i in
     ap ordered
-    (trials-more w (suc i)
+    (trials_more w (suc i)
     ∙ ap (λ l. l ++ (u ∷ [])) last
     ∙ append_assoc (trials (rows_before w i)) (t ∷ []) (u ∷ []))
     ∙ ordered_snoc (trials (rows_before w i)) t u
     ∙ ap (λ l. both (ordered l) (before t u)) (sym last)
 
-pub sound-rows-more : (w : List ℕ) (i : ℕ) → sound_rows (read_shape w) (rows_before w (i + 1)) ≡ both (sound_rows (read_shape w) (rows_before w i)) (stands w i)
+pub sound_rows_more : (w : List ℕ) (i : ℕ) → sound_rows (read_shape w) (rows_before w (i + 1)) ≡ both (sound_rows (read_shape w) (rows_before w i)) (stands w i)
 unfolding sound_rows stands rows_allowed both
-sound-rows-more w i =
+sound_rows_more w i =
     let s : Shape = read_shape w in
     let rows : rows_allowed s (rows_before w (i + 1)) ≡ both (rows_allowed s (rows_before w i)) (both (row_allowed s (row_at w i)) true) =
     ap (rows_allowed s) (rows_before_more w i) ∙ rows_allowed_append s (rows_before w i) (row_at w i ∷ []) in
     let apart : distinct (trials (rows_before w (i + 1)))
     ≡ both (distinct (trials (rows_before w i))) (not (repeated w i)) =
-    ap distinct (trials-more w i) ∙ distinct_snoc (trials (rows_before w i)) (row_at w i).trial in
-    rw (rows, ordered-more w i, apart)
+    ap distinct (trials_more w i) ∙ distinct_snoc (trials (rows_before w i)) (row_at w i).trial in
+    rw (rows, ordered_more w i, apart)
     (shuffle (rows_allowed s (rows_before w i)) (ordered (trials (rows_before w i))) (distinct (trials (rows_before w i)))
     (row_allowed s (row_at w i)) (follows w i) (not (repeated w i)))
   where
@@ -71,9 +71,9 @@ pub record Checked (w : List ℕ) (cells : ℕ) (table : List ℕ) (i : ℕ) : T
   pub met : (k : ℕ) → k < i → marked table (row_at w k).trial.number ≡ true
   pub sized : length table ≡ 1024
 
-pub checked-none : (w : List ℕ) (cells : ℕ) (table : List ℕ) → Headed w → cells ≡ box (reference (read_shape w)) → length table ≡ 1024 → Checked w cells table 0
+pub checked_none : (w : List ℕ) (cells : ℕ) (table : List ℕ) → Headed w → cells ≡ box (reference (read_shape w)) → length table ≡ 1024 → Checked w cells table 0
 unfolding sound_rows rows_allowed ordered distinct trials read_rows both
-checked-none w cells table h boxed sized =
+checked_none w cells table h boxed sized =
     let facts : HeaderFacts w = header_facts w h in
     record {
       inside = omega arith;
@@ -84,17 +84,17 @@ checked-none w cells table h boxed sized =
       sized = sized;
     }
 
-pub checked-more : (w : List ℕ) (cells : ℕ) (table after : List ℕ) (i : ℕ) (t : Bool) → Checked w cells table i → i < word w 0
+pub checked_more : (w : List ℕ) (cells : ℕ) (table after : List ℕ) (i : ℕ) (t : Bool) → Checked w cells table i → i < word w 0
     → t ≡ stands w i → not t ≡ false → Marking table after (word w (8 + 5 * i)) → length after ≡ length table
     → Checked w cells after (i + 1)
 unfolding both
-checked-more w cells table after i t st l test passed m sized =
+checked_more w cells table after i t st l test passed m sized =
     let stand : stands w i ≡ true = sym test ∙ not-false t passed in
     record {
       inside = omega arith;
       room = st.room;
       boxed = st.boxed;
-      stand = rw (sound-rows-more w i, st.stand, stand);
+      stand = rw (sound_rows_more w i, st.stand, stand);
       met = below_more _ i (λ k k<i. m.stays _ (st.met k k<i)) (rw (row_at_number w i) m.set);
       sized = sized ∙ st.sized;
     }
@@ -115,27 +115,27 @@ unmet w cells table i st clear =
         let no : ⊥ = omega arith in
         no
 
-pub checked-place : (w : List ℕ) (cells : ℕ) (table : List ℕ) (i : ℕ) (met : Bool) → Checked w cells table i → i < word w 0
+pub checked_place : (w : List ℕ) (cells : ℕ) (table : List ℕ) (i : ℕ) (met : Bool) → Checked w cells table i → i < word w 0
     → met ≡ marked table (word w (8 + 5 * i)) → AtPlace w cells i met
-checked-place w cells table i met st l e =
+checked_place w cells table i met st l e =
     let room : 8 + 5 * word w 0 ≤ length w = st.room in
     record { inside = omega arith; boxed = st.boxed; unmet = λ clear. unmet w cells table i st (sym e ∙ clear) }
 
-pub checked-stop : (w : List ℕ) (cells : ℕ) (table : List ℕ) (i : ℕ) (t : Bool) → Checked w cells table i → i < word w 0
+pub checked_stop : (w : List ℕ) (cells : ℕ) (table : List ℕ) (i : ℕ) (t : Bool) → Checked w cells table i → i < word w 0
     → t ≡ stands w i → not t ≡ true → false ≡ sound_rows (read_shape w) (read w).rows
 unfolding read both
-checked-stop w cells table i t st l test refused =
+checked_stop w cells table i t st l test refused =
     let broken : stands w i ≡ false = sym test ∙ not-true t refused in
     let rest : word w 0 ≡ i + 1 + (word w 0 - (i + 1)) = omega arith in
-    let here : sound_rows (read_shape w) (rows_before w (i + 1)) ≡ false = rw (sound-rows-more w i, st.stand, broken) in
+    let here : sound_rows (read_shape w) (rows_before w (i + 1)) ≡ false = rw (sound_rows_more w i, st.stand, broken) in
     sym
     (ap (λ n. sound_rows (read_shape w) (rows_before w n)) rest
     ∙ ap (sound_rows (read_shape w)) (read_rows_append (i + 1) (word w 0 - (i + 1)) (drop 8 w))
     ∙ sound_rows_part (read_shape w) (rows_before w (i + 1)) _ here)
 
-pub checked-end : (w : List ℕ) (cells : ℕ) (table : List ℕ) (i : ℕ) → Checked w cells table i → word w 0 ≤ i
+pub checked_end : (w : List ℕ) (cells : ℕ) (table : List ℕ) (i : ℕ) → Checked w cells table i → word w 0 ≤ i
     → true ≡ sound_rows (read_shape w) (read w).rows
 unfolding read
-checked-end w cells table i st l =
+checked_end w cells table i st l =
     let end : i ≡ word w 0 = omega arith in
     sym (rw (sym end) st.stand)

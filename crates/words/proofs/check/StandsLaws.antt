@@ -14,30 +14,30 @@ use Rattle.words.specs.Layout.{read_shape}
 use Rattle.words.specs.Places.{row_at, follows, repeated, stands, Found}
 
 -- The first of two tests decides, or leaves it to the second.
-pub first-failed : (b q s : Bool) → both b q ≡ s → not b ≡ true → false ≡ s
+pub first_failed : (b q s : Bool) → both b q ≡ s → not b ≡ true → false ≡ s
 unfolding both
-first-failed b q s e n = rw (not-true b n) at e
+first_failed b q s e n = rw (not-true b n) at e
 
-pub first-passed : (b q s : Bool) → both b q ≡ s → not b ≡ false → q ≡ s
+pub first_passed : (b q s : Bool) → both b q ≡ s → not b ≡ false → q ≡ s
 unfolding both
-first-passed b q s e n = rw (not-false b n) at e
+first_passed b q s e n = rw (not-false b n) at e
 
-pub stands-test : (w : List ℕ) (i : ℕ) (s : Shape) (r : Row) (a f b : Bool) → s ≡ read_shape w → r ≡ row_at w i
+pub stands_test : (w : List ℕ) (i : ℕ) (s : Shape) (r : Row) (a f b : Bool) → s ≡ read_shape w → r ≡ row_at w i
     → a ≡ row_allowed s r → f ≡ follows w i → b ≡ both a f
     → both b (not (repeated w i)) ≡ stands w i
 unfolding stands
-stands-test w i s r a f b shape row allowed order test =
+stands_test w i s r a f b shape row allowed order test =
     rw (test, allowed, order, shape, row)
     (both_assoc (row_allowed (read_shape w) (row_at w i)) (follows w i) (not (repeated w i)))
 
-pub stands-unmet : (b h s : Bool) → both b (not h) ≡ s → not b ≡ false → h ≡ false → true ≡ s
-stands-unmet b h s e n clear = ap not (sym clear) ∙ first-passed b (not h) s e n
+pub stands_unmet : (b h s : Bool) → both b (not h) ≡ s → not b ≡ false → h ≡ false → true ≡ s
+stands_unmet b h s e n clear = ap not (sym clear) ∙ first_passed b (not h) s e n
 
-pub stands-searched : (w : List ℕ) (i place : ℕ) (r : Row) (b s : Bool) → both b (not (repeated w i)) ≡ s
+pub stands_searched : (w : List ℕ) (i place : ℕ) (r : Row) (b s : Bool) → both b (not (repeated w i)) ≡ s
     → not b ≡ false → r ≡ row_at w i → Found w i r.trial.number place → leb i place ≡ s
-stands-searched w i place r b s e n row f =
+stands_searched w i place r b s e n row f =
     let searched : repeated w i ≡ ltb place i = rw row at f.holds in
-    none (leb i place) (compared i place) ∙ ap not (sym searched) ∙ first-passed _ _ s e n
+    none (leb i place) (compared i place) ∙ ap not (sym searched) ∙ first_passed _ _ s e n
   where
     none : (t : Bool) → Compared i place t → t ≡ not (ltb place i)
     none true (below l) = rw (le-ltb place i l)

@@ -19,15 +19,15 @@ pub record Unfound (w : List ℕ) (n number i : ℕ) : Type 0 where
   pub inside : i ≤ n
   pub none : (k : ℕ) → k < i → (row_at w k).trial.number ≡ number → ⊥
 
-pub search-none : (w : List ℕ) (n number : ℕ) → Unfound w n number 0
-search-none w n number = record { inside = omega arith; none = λ k l. absurd (let no : ⊥ = omega arith in no) }
+pub search_none : (w : List ℕ) (n number : ℕ) → Unfound w n number 0
+search_none w n number = record { inside = omega arith; none = λ k l. absurd (let no : ⊥ = omega arith in no) }
 
-pub search-more : (w : List ℕ) (n number i : ℕ) → Unfound w n number i → i < n → (word w (8 + 5 * i) ≡ number → ⊥) → Unfound w n number (i + 1)
-search-more w n number i u l other =
+pub search_more : (w : List ℕ) (n number i : ℕ) → Unfound w n number i → i < n → (word w (8 + 5 * i) ≡ number → ⊥) → Unfound w n number (i + 1)
+search_more w n number i u l other =
     record { inside = omega arith; none = below_more _ i u.none (λ e. other (sym (row_at_number w i) ∙ e)) }
 
-pub search-stop : (w : List ℕ) (n number i : ℕ) → Unfound w n number i → i < n → word w (8 + 5 * i) ≡ number → Found w n number i
-search-stop w n number i u l e =
+pub search_stop : (w : List ℕ) (n number i : ℕ) → Unfound w n number i → i < n → word w (8 + 5 * i) ≡ number → Found w n number i
+search_stop w n number i u l e =
     let rows : List Row = rows_before w n in
     let there : (row_at w i).trial.number ≡ number = row_at_number w i ∙ e in
     let inside : i < length rows = omega (arith, length_read_rows n (drop 8 w)) in
@@ -40,8 +40,8 @@ search-stop w n number i u l e =
       first = u.none;
     }
 
-pub search-end : (w : List ℕ) (n number i : ℕ) → Unfound w n number i → n ≤ i → Found w n number i
-search-end w n number i u l =
+pub search_end : (w : List ℕ) (n number i : ℕ) → Unfound w n number i → n ≤ i → Found w n number i
+search_end w n number i u l =
     let rows : List Row = rows_before w n in
     record {
       inside = u.inside;

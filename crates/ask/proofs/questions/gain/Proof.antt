@@ -1,6 +1,6 @@
 -- `gain` meets its contract: rows 1 to 3 refuse, or the inner function answers.
 use mathlib.Core.Path.{◌∙◌}
-use Rattle.ask.proofs.questions.Asking.{answer-turned}
+use Rattle.ask.proofs.questions.Asking.{answer_turned}
 use Rattle.calls.specs.Lent.{gain_answer}
 use borrow.Author.Rules.{rules}
 use Rattle.ask.proofs.questions.gain.Statement.{statement}
@@ -14,7 +14,7 @@ refused-requires c κs = search rules
 
 returns : tie.Need-returns
 unfolding gain_answer
-returns c = c.refused.ensures ∙ answer-turned _ _ _ _ c.before.before.refusal.ensures c.before.if1.true
+returns c = c.refused.ensures ∙ answer_turned _ _ _ _ c.before.before.refusal.ensures c.before.if1.true
 
 gain-in-requires : tie.Need-gain-in-requires
 gain-in-requires c κs = search rules

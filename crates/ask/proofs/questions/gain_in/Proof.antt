@@ -7,7 +7,7 @@ use Rattle.hypervolume.specs.Sorted.{Small}
 use Rattle.words.specs.Places.{as_row}
 use Rattle.calls.specs.Lent.{gain_answer}
 use Rattle.calls.proofs.Known.{known}
-use Rattle.ask.proofs.questions.Asking.{answer-row, answer-value, gain-refused, gain_passes}
+use Rattle.ask.proofs.questions.Asking.{answer_row, answer_value, gain_refused, gain_passes}
 use Rattle.words.proofs.Passed.{coordinates_small}
 use Rattle.ask.proofs.CountedAmounts.{all_gain}
 use borrow.Author.Rules.{rules}
@@ -22,7 +22,7 @@ refused-requires c κs = search rules
 
 returns : tie.Need-returns
 unfolding gain_answer
-returns c = c.refused.ensures ∙ answer-row c.before.before.before.before.args.w.now 5 _ _ c.before.before.before.before.requires (gain-refused _ (sym c.before.before.coordinates_allowed.ensures ∙ not-true _ c.before.if1.true))
+returns c = c.refused.ensures ∙ answer_row c.before.before.before.before.args.w.now 5 _ _ c.before.before.before.before.requires (gain_refused _ (sym c.before.before.coordinates_allowed.ensures ∙ not-true _ c.before.if1.true))
 
 shared-slice-read-n : tie.Need-shared-slice-read-n
 shared-slice-read-n c = omega (arith, known c.before.before.before.before.args.w.now c.before.before.before.before.requires)
@@ -52,7 +52,7 @@ returns-2 c =
     let counted = c.before.before.before in
     let start = counted.before.before.before.before.before.before.before.before in
     c.done.ensures
-    ∙ answer-value start.args.w.now _ _ _ start.requires (gain_passes _ (sym counted.before.before.before.before.before.before.coordinates_allowed.ensures ∙ not-false _ counted.before.before.before.before.before.if1.false))
+    ∙ answer_value start.args.w.now _ _ _ start.requires (gain_passes _ (sym counted.before.before.before.before.before.before.coordinates_allowed.ensures ∙ not-false _ counted.before.before.before.before.before.if1.false))
     (all_gain (as_row start.args.row).trial counted.before.before.before.new.ensures counted.count-joints.ensures)
 
 pub gain-in-spec : {M : Type 1} → statement M

@@ -13,7 +13,7 @@ use Rattle.words.specs.Places.{row_at}
 use Rattle.records.specs.Columns.{leave_out}
 use Rattle.words.proofs.Places.{held_small, point_at}
 use Rattle.ask.proofs.CountedAmounts.{counted_few, counted_placed}
-use Rattle.ask.proofs.questions.Joints.{joint-counted}
+use Rattle.ask.proofs.questions.Joints.{joint_counted}
 use Rattle.ask.proofs.questions.joint_at.Statement.{statement}
 use Rattle.ask.proofs.questions.joint_at.Tie as tie
 
@@ -63,7 +63,7 @@ returns : tie.Need-returns
 returns c =
     let counted = c.before.before.before.before.before.before in
     let start = counted.before.before.before.before.before in
-    joint-counted start.args.w.now _ _ start.requires.0 start.requires.1 start.requires.2 _ _ (read-point counted.before.before.before) counted.count-joints.ensures start.requires.3 c.before.place-among.ensures
+    joint_counted start.args.w.now _ _ start.requires.0 start.requires.1 start.requires.2 _ _ (read-point counted.before.before.before) counted.count-joints.ensures start.requires.3 c.before.place-among.ensures
     (c.amount_at.ensures _ (placed counted))
 
 pub joint-at-spec : {M : Type 1} → statement M

@@ -4,7 +4,7 @@ use native.Mathlib.Omega.{arith}
 use borrow.Author.Tests.{not-true, not-false}
 use Rattle.words.specs.Places.{as_record}
 use Rattle.calls.proofs.Known.{known}
-use Rattle.ask.proofs.questions.Asking.{least-unruled, least-none-held, least-found}
+use Rattle.ask.proofs.questions.Asking.{least_unruled, least_none_held, least_found}
 use borrow.Author.Rules.{rules}
 use Rattle.ask.proofs.questions.least_in.Statement.{statement}
 use Rattle.ask.proofs.questions.least_in.Tie as tie
@@ -16,7 +16,7 @@ refused-requires : tie.Need-refused-requires
 refused-requires c κs = search rules
 
 returns : tie.Need-returns
-returns c = c.refused.ensures ∙ least-unruled c.before.before.before.before.args.w.now _ c.before.before.before.before.requires (sym c.before.before.rule_allowed.ensures ∙ not-true _ c.before.if1.true)
+returns c = c.refused.ensures ∙ least_unruled c.before.before.before.before.args.w.now _ c.before.before.before.before.requires (sym c.before.before.rule_allowed.ensures ∙ not-true _ c.before.if1.true)
 
 shared-slice-read-n : tie.Need-shared-slice-read-n
 shared-slice-read-n c = omega (arith, known c.before.before.before.before.args.w.now c.before.before.before.before.requires)
@@ -25,7 +25,7 @@ refused-requires-2 : tie.Need-refused-requires-2
 refused-requires-2 c κs = search rules
 
 returns-2 : tie.Need-returns-2
-returns-2 c = c.refused2.ensures ∙ least-none-held c.before.before.before.before.before.before.args.w.now _ c.before.before.before.before.before.before.requires (sym c.before.before.before.before.rule_allowed.ensures ∙ not-false _ c.before.before.before.if1.false) c.before.if2.true
+returns-2 c = c.refused2.ensures ∙ least_none_held c.before.before.before.before.before.before.args.w.now _ c.before.before.before.before.before.before.requires (sym c.before.before.before.before.rule_allowed.ensures ∙ not-false _ c.before.before.before.if1.false) c.before.if2.true
 
 least-place-requires : tie.Need-least-place-requires
 least-place-requires c κs = (c.before.before.before.before.before.requires, refl, omega (arith, c.if2.false))
@@ -34,7 +34,7 @@ record-at-requires : tie.Need-record-at-requires
 record-at-requires c κs = (c.before.before.before.before.before.before.requires, c.least-place.ensures.0)
 
 returns-3 : tie.Need-returns-3
-returns-3 c = least-found c.before.before.before.before.before.before.before.args.w.now _ c.before.before.before.before.before.before.before.requires (as_record c.record-at.result) (sym c.before.before.before.before.before.rule_allowed.ensures ∙ not-false _ c.before.before.before.before.if1.false) c.before.before.if2.false (c.record-at.ensures ∙ c.before.least-place.ensures.1)
+returns-3 c = least_found c.before.before.before.before.before.before.before.args.w.now _ c.before.before.before.before.before.before.before.requires (as_record c.record-at.result) (sym c.before.before.before.before.before.rule_allowed.ensures ∙ not-false _ c.before.before.before.before.if1.false) c.before.before.if2.false (c.record-at.ensures ∙ c.before.least-place.ensures.1)
 
 pub least-in-spec : {M : Type 1} → statement M
 least-in-spec =

@@ -6,7 +6,7 @@ use Rattle.words.proofs.Passed.{reference_small}
 use Rattle.words.specs.Layout.{read}
 use Rattle.calls.specs.Calls.{box_of}
 use Rattle.calls.proofs.Known.{known}
-use Rattle.ask.proofs.questions.Asking.{share_asks, share-value}
+use Rattle.ask.proofs.questions.Asking.{share_asks, share_value}
 use borrow.Author.Rules.{rules}
 use Rattle.ask.proofs.questions.share_in.Statement.{statement}
 use Rattle.ask.proofs.questions.share_in.Tie as tie
@@ -31,7 +31,7 @@ done-requires : tie.Need-done-requires
 done-requires c κs = search rules
 
 returns : tie.Need-returns
-returns c = c.done.ensures ∙ share-value c.before.before.before.before.before.before.args.w.now _ _ c.before.before.before.before.before.before.requires (boxed c.before.before) c.before.millionths.ensures
+returns c = c.done.ensures ∙ share_value c.before.before.before.before.before.before.args.w.now _ _ c.before.before.before.before.before.before.requires (boxed c.before.before) c.before.millionths.ensures
 
 pub share-in-spec : {M : Type 1} → statement M
 share-in-spec =

@@ -2,7 +2,7 @@
 use borrow.Author.Rules.{rules}
 use mathlib.Core.Path.{sym, subst}
 use Prim.Native.Nat.{◌<◌}
-use Rattle.axes.proofs.orders.Entries.{entry-is, place_low}
+use Rattle.axes.proofs.orders.Entries.{entry_is, place_low}
 use Rattle.axes.proofs.orders.axis.Statement.{statement}
 use Rattle.axes.proofs.orders.axis.Tie as tie
 
@@ -20,7 +20,7 @@ index-2-result c = search rules
 
 returns : tie.Need-returns
 returns c =
-    (entry-is c.before.args.order c.before.args.place, subst (λ n. n < 3) (sym (entry-is c.before.args.order c.before.args.place)) (place_low _))
+    (entry_is c.before.args.order c.before.args.place, subst (λ n. n < 3) (sym (entry_is c.before.args.order c.before.args.place)) (place_low _))
 
 pub axis-spec : {M : Type 1} → statement M
 axis-spec = tie.close (tie.spec mul-result mul-result-2 index-1-result index-2-result returns)

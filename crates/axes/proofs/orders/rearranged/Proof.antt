@@ -1,6 +1,6 @@
 -- `rearranged` meets its contract: a coordinate for each letter.
 use borrow.Author.Rules.{rules}
-use Rattle.axes.proofs.orders.Entries.{coordinates-by}
+use Rattle.axes.proofs.orders.Entries.{coordinates_by}
 use Rattle.axes.proofs.orders.rearranged.Statement.{statement}
 use Rattle.axes.proofs.orders.rearranged.Tie as tie
 
@@ -33,7 +33,7 @@ array-read-t18 c = search rules
 
 returns : tie.Need-returns
 returns c =
-    coordinates-by c.before.before.before.before.args.order c.before.before.before.before.args.p.at _ _ _ (search rules) c.before.before.axis.ensures.0 c.before.axis2.ensures.0 c.axis3.ensures.0
+    coordinates_by c.before.before.before.before.args.order c.before.before.before.before.args.p.at _ _ _ (search rules) c.before.before.axis.ensures.0 c.before.axis2.ensures.0 c.axis3.ensures.0
 
 pub rearranged-spec : {M : Type 1} → statement M
 rearranged-spec =

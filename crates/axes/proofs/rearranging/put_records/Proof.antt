@@ -4,7 +4,7 @@ use native.Mathlib.Omega.{arith}
 use lib.ListN.{length}
 use Rattle.calls.proofs.Known.{known}
 use Rattle.axes.proofs.Keys.{named_at}
-use Rattle.axes.proofs.rearranging.Storing.{RecordsPut, records-none, records-more, records-end}
+use Rattle.axes.proofs.rearranging.Storing.{RecordsPut, records_none, records_more, records_end}
 use Rattle.axes.proofs.rearranging.put_records.Statement.{statement}
 use Rattle.axes.proofs.rearranging.put_records.Tie as tie
 
@@ -15,7 +15,7 @@ abbrev decreases-loop : tie.decreases-loop
 decreases-loop w order keys second₀ i₀ second i = length keys - i
 
 loop-holds : tie.Need-loop-init invariant-loop decreases-loop
-loop-holds c = records-none _ _ _ _
+loop-holds c = records_none _ _ _ _
 
 few : (c : tie.In-loop invariant-loop decreases-loop) → c.before.loop.i < 512
 few c = omega (arith, c.loop-test.true, c.before.before.before.before.before.requires.2.many, (known _ c.before.before.before.before.before.requires.0).few)
@@ -44,13 +44,13 @@ loop-less c = omega (arith, c.before.before.before.before.before.loop-test.true)
 loop-again : tie.Need-loop-preserved invariant-loop decreases-loop
 loop-again c =
     let start = c.before.before.before.before.before.before.before.before.before.before in
-    records-more _ c.before.before.before.before.before.before.loop.invariant c.before.before.before.before.before.loop-test.true (omega (arith, start.requires.2.many, start.requires.3)) c.before.before.put-row.ensures c.before.before.put-row.auto.1.1.1.0
+    records_more _ c.before.before.before.before.before.before.loop.invariant c.before.before.before.before.before.loop-test.true (omega (arith, start.requires.2.many, start.requires.3)) c.before.before.put-row.ensures c.before.before.put-row.auto.1.1.1.0
 
 same_length : tie.Need-same-length invariant-loop decreases-loop
 same_length c = c.before.loop.invariant.long
 
 returns : tie.Need-returns invariant-loop decreases-loop
-returns c = records-end c.before.loop.invariant c.loop-test.false
+returns c = records_end c.before.loop.invariant c.loop-test.false
 
 pub put-records-spec : {M : Type 1} → statement M
 put-records-spec =

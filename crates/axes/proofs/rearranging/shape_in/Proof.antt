@@ -4,7 +4,7 @@ use native.Mathlib.Omega.{arith}
 use Rattle.words.specs.Layout.{read, read_shape}
 use Rattle.calls.proofs.Known.{known}
 use Rattle.axes.specs.Orders.{rearranged}
-use Rattle.axes.proofs.rearranging.Storing.{shape-rearranged}
+use Rattle.axes.proofs.rearranging.Storing.{shape_rearranged}
 use borrow.Author.Rules.{rules}
 use Rattle.axes.proofs.rearranging.shape_in.Statement.{statement}
 use Rattle.axes.proofs.rearranging.shape_in.Tie as tie
@@ -38,7 +38,7 @@ cast-t19 c = search rules
 
 returns : tie.Need-returns
 unfolding read read_shape
-returns c = shape-rearranged _ _ _ (c.before.before.rearranged.ensures ∙ ap (rearranged _) c.before.before.before.reference_of.ensures)
+returns c = shape_rearranged _ _ _ (c.before.before.rearranged.ensures ∙ ap (rearranged _) c.before.before.before.reference_of.ensures)
 
 pub shape-in-spec : {M : Type 1} → statement M
 shape-in-spec =

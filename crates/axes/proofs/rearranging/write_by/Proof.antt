@@ -2,7 +2,7 @@
 use native.Mathlib.Omega.{arith}
 use Rattle.words.specs.Layout.{extent}
 use Rattle.calls.proofs.Known.{known}
-use Rattle.axes.proofs.rearranging.Storing.{archive-stored}
+use Rattle.axes.proofs.rearranging.Storing.{archive_stored}
 use borrow.Author.Rules.{rules}
 use Rattle.axes.proofs.rearranging.write_by.Statement.{statement}
 use Rattle.axes.proofs.rearranging.write_by.Tie as tie
@@ -67,7 +67,7 @@ same-length-3 c = search rules
 returns : tie.Need-returns
 returns c =
     let start = c.before.before.before.before.before.before.before.before.before.before.before.before.before.before.before.before.before.before.before.before.before.before.before.before.before.before.before.before.before.before in
-    archive-stored _ _ _ _ _ _ _ _ start.requires.0 start.requires.4 c.before.before.before.before.before.before.before.before.before.before.before.before.before.before.before.before.before.before.before.before.before.arrange.ensures c.before.before.before.before.before.before.before.before.before.before.before.before.before.before.put-records.ensures c.before.before.before.before.before.before.before.before.before.before.clear.ensures c.before.before.before.before.before.shape-in.ensures c.before.before.put-header.ensures
+    archive_stored _ _ _ _ _ _ _ _ start.requires.0 start.requires.4 c.before.before.before.before.before.before.before.before.before.before.before.before.before.before.before.before.before.before.before.before.before.arrange.ensures c.before.before.before.before.before.before.before.before.before.before.before.before.before.before.put-records.ensures c.before.before.before.before.before.before.before.before.before.before.clear.ensures c.before.before.before.before.before.shape-in.ensures c.before.before.put-header.ensures
 
 pub write-by-spec : {M : Type 1} → statement M
 write-by-spec =

@@ -1,11 +1,11 @@
 -- `card::lines::line_due` meets its contract: whether a line is due, and the reading of it.
 use borrow.Author.Rules.{rules}
-use Rattle.card.proofs.lines.LineDue.{due-before, due_next, due-behind}
+use Rattle.card.proofs.lines.LineDue.{due_before, due_next, due_behind}
 use Rattle.card.proofs.lines.line_due.Statement.{statement}
 use Rattle.card.proofs.lines.line_due.Tie as tie
 
 returns : tie.Need-returns
-returns c = due-before _ c.if1.true
+returns c = due_before _ c.if1.true
 
 sub-i : tie.Need-overflow-sub-i
 sub-i c = search rules
@@ -23,7 +23,7 @@ returns-2 : tie.Need-returns-2
 returns-2 c = due_next _ c.before.before.if1.false c.before.if2.true c.line_at_lem.ensures
 
 returns-3 : tie.Need-returns-3
-returns-3 c = due-behind _ c.before.if1.false c.if2.false
+returns-3 c = due_behind _ c.before.if1.false c.if2.false
 
 pub line-due-spec : {M : Type 1} → statement M
 line-due-spec =

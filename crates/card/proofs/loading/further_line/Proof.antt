@@ -1,6 +1,6 @@
 -- `card::loading::further_line` meets its contract: row 15, or what entering the trial comes to.
 use borrow.Author.Rules.{rules}
-use Rattle.card.proofs.loading.ReadCard.{further-missing, further-entered}
+use Rattle.card.proofs.loading.ReadCard.{further_missing, further_entered}
 use Rattle.card.proofs.loading.further_line.Statement.{statement}
 use Rattle.card.proofs.loading.further_line.Tie as tie
 
@@ -11,7 +11,7 @@ enum_told : tie.Need-enum-told
 enum_told c = search rules
 
 returns : tie.Need-returns
-returns c = further-missing _ c.enum_told.given.1
+returns c = further_missing _ c.enum_told.given.1
 
 enter-requires : tie.Need-enter-requires
 enter-requires c κs = c.before.before.before.before.before.before.before.before.before.before.before.before.before.requires
@@ -35,7 +35,7 @@ same-length-6 : tie.Need-same-length-6
 same-length-6 c = search rules
 
 returns-2 : tie.Need-returns-2
-returns-2 c = further-entered c.before.before.before.before.before.before.before.before.before.before.before.before.before.before.before.before.before.before.l.given.1 c.before.before.before.before.before.before.before.before.before.before.enter.ensures
+returns-2 c = further_entered c.before.before.before.before.before.before.before.before.before.before.before.before.before.before.before.before.before.before.l.given.1 c.before.before.before.before.before.before.before.before.before.before.enter.ensures
 
 pub further-line-spec : {M : Type 1} → statement M
 further-line-spec =

@@ -8,7 +8,7 @@ use Rattle.text.specs.Lines.{numbers_of}
 use Rattle.ask.proofs.Arrays.{Arrays, room, arrays_kept}
 use Rattle.card.specs.Card.{line_count, due_of}
 use Rattle.card.proofs.CardLines.{Inside, inside}
-use Rattle.card.proofs.loading.ReadCard.{card-missing, Started, first-refused, first_done, started-comes-to, Reading, reading_none, reading-few, reading-passes, reading_more, reading-stop, reading_end}
+use Rattle.card.proofs.loading.ReadCard.{card_missing, Started, first_refused, first_done, started_comes_to, Reading, reading_none, reading_few, reading_passes, reading_more, reading_stop, reading_end}
 use Rattle.card.proofs.loading.read_card.Statement.{statement}
 use Rattle.card.proofs.loading.read_card.Tie as tie
 
@@ -41,7 +41,7 @@ refused-requires : tie.Need-refused-requires invariant-loop decreases-loop
 refused-requires c κs = search rules
 
 returns : tie.Need-returns invariant-loop decreases-loop
-returns c = card-missing _ _ (sym (ap due_of c.before.enum_told.given.1) ∙ c.before.before.before.read-line.ensures) c.refused.ensures
+returns c = card_missing _ _ (sym (ap due_of c.before.enum_told.given.1) ∙ c.before.before.before.read-line.ensures) c.refused.ensures
 
 first-line-requires : tie.Need-first-line-requires invariant-loop decreases-loop
 first-line-requires c κs = search rules
@@ -53,7 +53,7 @@ same_length : tie.Need-same-length invariant-loop decreases-loop
 same_length c = search rules
 
 returns-2 : tie.Need-returns-2 invariant-loop decreases-loop
-returns-2 c = first-refused _ _ (first-inside c.before.before.before.before.before.before.before) c.before.before.before.before.first_line.ensures.0 c.before.if1.true c.refused2.ensures
+returns-2 c = first_refused _ _ (first-inside c.before.before.before.before.before.before.before) c.before.before.before.before.first_line.ensures.0 c.before.if1.true c.refused2.ensures
 
 loop-holds : tie.Need-loop-init invariant-loop decreases-loop
 loop-holds c = (reading_none (first-inside c.before.before.before.before.before.before) (begun c), record { points_long = refl; corners_long = refl; places_long = refl; line_long = refl; counts_long = refl })
@@ -80,7 +80,7 @@ slice-aggregate-further-line-5 : tie.Need-slice-aggregate-further-line-5 invaria
 slice-aggregate-further-line-5 c = sym c.before.before.before.before.before.before.before.before.before.before.loop.invariant.1.counts_long
 
 further-line-requires : tie.Need-further-line-requires invariant-loop decreases-loop
-further-line-requires c κs = (reading-passes c.before.before.before.before.before.before.before.before.before.before.loop.invariant.0, room c.before.before.before.before.before.before.before.before.before.before.loop.invariant.1)
+further-line-requires c κs = (reading_passes c.before.before.before.before.before.before.before.before.before.before.loop.invariant.0, room c.before.before.before.before.before.before.before.before.before.before.loop.invariant.1)
 
 refused-requires-3 : tie.Need-refused-requires-3 invariant-loop decreases-loop
 refused-requires-3 c κs = search rules
@@ -89,10 +89,10 @@ same-length-2 : tie.Need-same-length-2 invariant-loop decreases-loop
 same-length-2 c = c.before.before.before.before.before.before.before.before.before.further_line.auto.0 ∙ c.before.before.before.before.before.before.before.before.before.before.before.before.before.before.before.before.before.before.before.before.loop.invariant.0.same ∙ c.before.before.before.before.before.before.before.before.before.before.before.before.before.before.before.before.before.before.before.before.before.before.before.before.first_line.auto.0
 
 returns-3 : tie.Need-returns-3 invariant-loop decreases-loop
-returns-3 c = reading-stop c.before.before.before.before.before.before.before.before.before.before.before.before.before.before.before.before.before.before.before.before.loop.invariant.0 (line-inside c.before.before.before.before.before.before.before.before.before.before.before.before.before.before.before.before.before) c.before.before.before.before.before.before.before.before.before.further_line.ensures _ (started-comes-to (begun c.before.before.before.before.before.before.before.before.before.before.before.before.before.before.before.before.before.before.before.before.before)) c.before.if2.true c.refused3.ensures
+returns-3 c = reading_stop c.before.before.before.before.before.before.before.before.before.before.before.before.before.before.before.before.before.before.before.before.loop.invariant.0 (line-inside c.before.before.before.before.before.before.before.before.before.before.before.before.before.before.before.before.before) c.before.before.before.before.before.before.before.before.before.further_line.ensures _ (started_comes_to (begun c.before.before.before.before.before.before.before.before.before.before.before.before.before.before.before.before.before.before.before.before.before)) c.before.if2.true c.refused3.ensures
 
 add-line : tie.Need-overflow-add-line invariant-loop decreases-loop
-add-line c = omega (arith, reading-few c.before.before.before.before.before.before.before.before.before.before.before.before.before.before.before.before.before.before.before.loop.invariant.0)
+add-line c = omega (arith, reading_few c.before.before.before.before.before.before.before.before.before.before.before.before.before.before.before.before.before.before.before.loop.invariant.0)
 
 loop-less : tie.Need-loop-smaller invariant-loop decreases-loop
 loop-less c = omega (arith, line-inside c.before.before.before.before.before.before.before.before.before.before.before.before.before.before.before.before)
@@ -108,7 +108,7 @@ enum-told-2 : tie.Need-enum-told-2 invariant-loop decreases-loop
 enum-told-2 c = search rules
 
 renew-requires : tie.Need-renew-requires invariant-loop decreases-loop
-renew-requires c κs = reading-passes c.before.before.before.before.loop.invariant.0
+renew-requires c κs = reading_passes c.before.before.before.before.loop.invariant.0
 
 sub-t36 : tie.Need-overflow-sub-t36 invariant-loop decreases-loop
 sub-t36 c = omega (arith, c.before.before.before.before.before.before.before.loop.invariant.0.second)

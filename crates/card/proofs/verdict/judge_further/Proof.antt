@@ -9,7 +9,7 @@ use Rattle.text.specs.Lines.{numbers_of}
 use Rattle.words.specs.Places.{as_shape}
 use Rattle.card.specs.Card.{line_count, due, due_of}
 use Rattle.card.proofs.CardLines.{inside, few_lines}
-use Rattle.card.proofs.verdict.FurtherLines.{Judged, judged_none, judged-unmet, judged_more, judged-stop, judged_end}
+use Rattle.card.proofs.verdict.FurtherLines.{Judged, judged_none, judged_unmet, judged_more, judged_stop, judged_end}
 use Rattle.card.proofs.verdict.judge_further.Statement.{statement}
 use Rattle.card.proofs.verdict.judge_further.Tie as tie
 
@@ -46,7 +46,7 @@ mark-requires c κs = c.before.before.before.before.before.before.loop.invariant
 further-row-requires : tie.Need-further-row-requires invariant-loop decreases-loop
 further-row-requires c κs =
     let at-loop = c.before.before.before.before.before.before.before.before in
-    (omega (arith, at-loop.loop.invariant.inside, few_lines at-loop.before.before.args.card.now), judged-unmet at-loop.loop.invariant c.before.before.number-on.ensures c.before.mark.ensures.0)
+    (omega (arith, at-loop.loop.invariant.inside, few_lines at-loop.before.before.args.card.now), judged_unmet at-loop.loop.invariant c.before.before.number-on.ensures c.before.mark.ensures.0)
 
 add-refused : tie.Need-overflow-add-refused invariant-loop decreases-loop
 add-refused c = omega (arith, c.before.before.before.before.before.before.before.before.before.before.loop.invariant.inside, few_lines c.before.before.before.before.before.before.before.before.before.before.before.before.args.card.now)
@@ -55,7 +55,7 @@ refused-requires : tie.Need-refused-requires invariant-loop decreases-loop
 refused-requires c κs = search rules
 
 returns : tie.Need-returns invariant-loop decreases-loop
-returns c = judged-stop c.before.before.before.before.before.before.before.before.before.before.before.loop.invariant (here c.before.before.before.before.before.before.before.before) c.before.before.further-row.ensures c.before.if1.true c.refused.ensures
+returns c = judged_stop c.before.before.before.before.before.before.before.before.before.before.before.loop.invariant (here c.before.before.before.before.before.before.before.before) c.before.before.further-row.ensures c.before.if1.true c.refused.ensures
 
 add-count : tie.Need-overflow-add-count invariant-loop decreases-loop
 add-count c = omega (arith, c.before.before.before.before.before.before.before.before.before.before.loop.invariant.inside, few_lines c.before.before.before.before.before.before.before.before.before.before.before.before.args.card.now)

@@ -3,7 +3,7 @@
 use mathlib.Core.Path.{refl, sym, ◌∙◌}
 use native.Mathlib.Omega.{arith}
 use borrow.Author.Rules.{rules}
-use Rattle.card.proofs.verdict.FurtherLines.{Searched, searched-more, searched-stop, searched-end}
+use Rattle.card.proofs.verdict.FurtherLines.{Searched, searched_more, searched_stop, searched_end}
 use Rattle.card.proofs.verdict.search.Statement.{statement}
 use Rattle.card.proofs.verdict.search.Tie as tie
 
@@ -26,16 +26,16 @@ number-at-requires : tie.Need-number-at-requires invariant-loop decreases-loop
 number-at-requires c κs = search rules
 
 returns : tie.Need-returns invariant-loop decreases-loop
-returns c = searched-stop _ _ _ _ c.before.before.before.loop.invariant c.before.before.loop-test.true (sym c.before.number_at.ensures ∙ c.if1.true)
+returns c = searched_stop _ _ _ _ c.before.before.before.loop.invariant c.before.before.loop-test.true (sym c.before.number_at.ensures ∙ c.if1.true)
 
 loop-less : tie.Need-loop-smaller invariant-loop decreases-loop
 loop-less c = omega arith
 
 loop-again : tie.Need-loop-preserved invariant-loop decreases-loop
-loop-again c = searched-more _ _ _ _ c.before.before.before.loop.invariant c.before.before.loop-test.true (λ e. c.if1.false (c.before.number_at.ensures ∙ e))
+loop-again c = searched_more _ _ _ _ c.before.before.before.loop.invariant c.before.before.loop-test.true (λ e. c.if1.false (c.before.number_at.ensures ∙ e))
 
 returns-2 : tie.Need-returns-2 invariant-loop decreases-loop
-returns-2 c = searched-end _ _ _ _ c.before.loop.invariant c.loop-test.false
+returns-2 c = searched_end _ _ _ _ c.before.loop.invariant c.loop-test.false
 
 pub search-spec : {M : Type 1} → statement M
 search-spec =

@@ -3,7 +3,7 @@ use Prim.Native.Nat.{◌-◌}
 use lib.ListN.{length}
 use borrow.Author.Count.{falls}
 use borrow.Author.Rules.{rules}
-use Rattle.corners.proofs.limits.CollectLaws.{Gathering, gathering-none, gathering-skip, gathering-more, gathering-stop, gathering-end}
+use Rattle.corners.proofs.limits.CollectLaws.{Gathering, gathering_none, gathering_skip, gathering_more, gathering_stop, gathering_end}
 use Rattle.corners.proofs.limits.collect.Statement.{statement}
 use Rattle.corners.proofs.limits.collect.Tie as tie
 
@@ -14,7 +14,7 @@ abbrev decreases-loop : tie.decreases-loop
 decreases-loop points u corners₀ places₀ limit m₀ i₀ corners places m i = length points - i
 
 loop-holds : tie.Need-loop-init invariant-loop decreases-loop
-loop-holds c = gathering-none c.before.requires
+loop-holds c = gathering_none c.before.requires
 
 point-at-requires : tie.Need-point-at-requires invariant-loop decreases-loop
 point-at-requires c κs = search rules
@@ -34,7 +34,7 @@ same-length-2 c = c.before.before.before.before.before.loop.invariant.places_lon
 returns : tie.Need-returns invariant-loop decreases-loop
 returns c =
     let read = c.before.before.before in
-    gathering-stop read.before.before.loop.invariant read.before.loop-test.true (search rules) read.point_at.ensures c.if1.true
+    gathering_stop read.before.before.loop.invariant read.before.loop-test.true (search rules) read.point_at.ensures c.if1.true
 
 dominates-requires : tie.Need-dominates-requires invariant-loop decreases-loop
 dominates-requires c κs = search rules
@@ -67,7 +67,7 @@ loop-again : tie.Need-loop-preserved invariant-loop decreases-loop
 loop-again c =
     let tested = c.before.before.before.before.before in
     let read = tested.before.before.before.before in
-    gathering-more read.before.before.loop.invariant read.before.loop-test.true read.point_at.ensures tested.dominates.ensures c.before.before.before.before.if2.true c.before.before.join.ensures c.before.put-point.ensures
+    gathering_more read.before.before.loop.invariant read.before.loop-test.true read.point_at.ensures tested.dominates.ensures c.before.before.before.before.if2.true c.before.before.join.ensures c.before.put-point.ensures
 
 add-i-2 : tie.Need-overflow-add-i-2 invariant-loop decreases-loop
 add-i-2 c = search rules
@@ -79,7 +79,7 @@ loop-again-2 : tie.Need-loop-preserved-2 invariant-loop decreases-loop
 loop-again-2 c =
     let tested = c.before in
     let read = tested.before.before.before.before in
-    gathering-skip read.before.before.loop.invariant read.before.loop-test.true read.point_at.ensures tested.dominates.ensures c.if2.false
+    gathering_skip read.before.before.loop.invariant read.before.loop-test.true read.point_at.ensures tested.dominates.ensures c.if2.false
 
 same-length-3 : tie.Need-same-length-3 invariant-loop decreases-loop
 same-length-3 c = c.before.loop.invariant.corners_long
@@ -88,7 +88,7 @@ same-length-4 : tie.Need-same-length-4 invariant-loop decreases-loop
 same-length-4 c = c.before.loop.invariant.places_long
 
 returns-2 : tie.Need-returns-2 invariant-loop decreases-loop
-returns-2 c = gathering-end c.before.loop.invariant c.loop-test.false
+returns-2 c = gathering_end c.before.loop.invariant c.loop-test.false
 
 pub collect-spec : {M : Type 1} → statement M
 collect-spec =

@@ -4,7 +4,7 @@ use mathlib.Core.Path.{◌≡◌}
 use native.Mathlib.Omega.{arith}
 use lib.ListN.{length}
 use borrow.Author.Rules.{rules}
-use Rattle.corners.proofs.limits.LimitsLaws.{Bounding, bounding-none, bounding-more, bounding-past, bounding-end}
+use Rattle.corners.proofs.limits.LimitsLaws.{Bounding, bounding_none, bounding_more, bounding_past, bounding_end}
 use Rattle.corners.proofs.limits.limits.Statement.{statement}
 use Rattle.corners.proofs.limits.limits.Tie as tie
 
@@ -21,13 +21,13 @@ join-requires : tie.Need-join-requires invariant-loop decreases-loop
 join-requires c κs = search rules
 
 loop-holds : tie.Need-loop-init invariant-loop decreases-loop
-loop-holds c = bounding-none (search rules) c.join.ensures
+loop-holds c = bounding_none (search rules) c.join.ensures
 
 seek-requires : tie.Need-seek-requires invariant-loop decreases-loop
 seek-requires c κs = search rules
 
 returns : tie.Need-returns invariant-loop decreases-loop
-returns c = bounding-end c.before.before.before.loop.invariant
+returns c = bounding_end c.before.before.before.loop.invariant
 
 point-at-requires : tie.Need-point-at-requires invariant-loop decreases-loop
 point-at-requires c κs = inside c.before.seek.ensures.1 c.if1.false
@@ -45,14 +45,14 @@ three c = search rules
 offered : (c : tie.After-join2 invariant-loop decreases-loop) → Bounding c.before.before.before.before.before.before.before.before.before.args.points.now c.before.before.before.before.before.before.before.before.before.args.u.at c.before.before.with.result.least c.before.before.with.result.second c.join2.result.at (c.before.before.before.before.before.seek.result + 1)
 offered c =
     let sought = c.before.before.before.before.before in
-    bounding-more (bounding-past _ _ sought.before.before.loop.invariant sought.seek.ensures.0 sought.seek.ensures.1) (inside sought.seek.ensures.1 c.before.before.before.before.if1.false)
+    bounding_more (bounding_past _ _ sought.before.before.loop.invariant sought.seek.ensures.0 sought.seek.ensures.1) (inside sought.seek.ensures.1 c.before.before.before.before.if1.false)
     c.before.before.before.point_at.ensures c.before.before.with.ensures (three c.before) c.join2.ensures
 
 covered-requires : tie.Need-covered-requires invariant-loop decreases-loop
 covered-requires c κs = search rules
 
 returns-2 : tie.Need-returns-2 invariant-loop decreases-loop
-returns-2 c = bounding-end (offered c.before.before)
+returns-2 c = bounding_end (offered c.before.before)
 
 add-i : tie.Need-overflow-add-i invariant-loop decreases-loop
 add-i c = omega (arith, inside c.before.before.before.before.before.before.before.seek.ensures.1 c.before.before.before.before.before.before.if1.false)
@@ -64,7 +64,7 @@ loop-again : tie.Need-loop-preserved invariant-loop decreases-loop
 loop-again c = offered c.before.before
 
 returns-3 : tie.Need-returns-3 invariant-loop decreases-loop
-returns-3 c = bounding-end c.before.loop.invariant
+returns-3 c = bounding_end c.before.loop.invariant
 
 pub limits-spec : {M : Type 1} → statement M
 limits-spec =

@@ -3,7 +3,7 @@ use Prim.Native.Nat.{◌-◌, ◌≤◌}
 use native.Mathlib.Omega.{arith}
 use lib.ListN.{length}
 use borrow.Author.Rules.{rules}
-use Rattle.corners.proofs.limits.LimitsLaws.{axes-few}
+use Rattle.corners.proofs.limits.LimitsLaws.{axes_few}
 use Rattle.corners.proofs.limits.seek.Statement.{statement}
 use Rattle.corners.proofs.limits.seek.Tie as tie
 
@@ -36,8 +36,8 @@ axes-within-requires-2 c κs = search rules
 
 add-if2 : tie.Need-overflow-add-if2 invariant-loop decreases-loop
 add-if2 c =
-    let a : c.before.axes_within.result ≤ 3 = axes-few _ _ (search rules) c.before.axes_within.ensures in
-    let b : c.axes-within2.result ≤ 3 = axes-few _ _ (search rules) c.axes-within2.ensures in
+    let a : c.before.axes_within.result ≤ 3 = axes_few _ _ (search rules) c.before.axes_within.ensures in
+    let b : c.axes-within2.result ≤ 3 = axes_few _ _ (search rules) c.axes-within2.ensures in
     omega arith
 
 returns-2 : tie.Need-returns-2 invariant-loop decreases-loop

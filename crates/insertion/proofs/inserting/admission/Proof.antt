@@ -10,7 +10,7 @@ use Rattle.words.specs.Layout.{read, read_shape, word}
 use Rattle.words.proofs.Places.{find_held}
 use Rattle.calls.specs.Calls.{held_trials}
 use Rattle.calls.proofs.Known.{known, count_rows}
-use Rattle.insertion.proofs.inserting.Admitting.{admission-5, admission-6, admission-7, admission-8, admission-passed}
+use Rattle.insertion.proofs.inserting.Admitting.{admission_5, admission_6, admission_7, admission_8, admission_passed}
 use Rattle.insertion.proofs.inserting.admission.Statement.{statement}
 use Rattle.insertion.proofs.inserting.admission.Tie as tie
 
@@ -24,13 +24,13 @@ number-allowed-requires : tie.Need-number-allowed-requires
 number-allowed-requires c κs = search rules
 
 returns : tie.Need-returns
-returns c = sym (admission-5 _ _ 0 (sym c.before.number_allowed.ensures ∙ not-true _ c.if1.true))
+returns c = sym (admission_5 _ _ 0 (sym c.before.number_allowed.ensures ∙ not-true _ c.if1.true))
 
 coordinates-allowed-requires : tie.Need-coordinates-allowed-requires
 coordinates-allowed-requires c κs = search rules
 
 returns-2 : tie.Need-returns-2
-returns-2 c = sym (admission-6 _ _ 0 (five c.before.before) (sym c.before.coordinates_allowed.ensures ∙ not-true _ c.if2.true))
+returns-2 c = sym (admission_6 _ _ 0 (five c.before.before) (sym c.before.coordinates_allowed.ensures ∙ not-true _ c.if2.true))
 
 find-requires : tie.Need-find-requires
 find-requires c κs = (known c.before.before.before.before.before.args.w.now c.before.before.before.before.before.requires).records_long
@@ -39,7 +39,7 @@ shared-slice-read-if3 : tie.Need-shared-slice-read-if3
 shared-slice-read-if3 c = omega (arith, known c.before.before.before.before.before.before.before.args.w.now c.before.before.before.before.before.before.before.requires)
 
 returns-3 : tie.Need-returns-3
-returns-3 c = sym (admission-7 _ _ 0 (five c.before.before.before.before.before) (sym c.before.before.before.before.coordinates_allowed.ensures ∙ not-false _ c.before.before.before.if2.false) (seven c.before.before ∙ lt-ltb _ _ c.if3.true))
+returns-3 c = sym (admission_7 _ _ 0 (five c.before.before.before.before.before) (sym c.before.before.before.before.coordinates_allowed.ensures ∙ not-false _ c.before.before.before.if2.false) (seven c.before.before ∙ lt-ltb _ _ c.if3.true))
 
 shared-slice-read-if4 : tie.Need-shared-slice-read-if4
 shared-slice-read-if4 c = omega (arith, known c.before.before.before.before.before.before.before.before.before.args.w.now c.before.before.before.before.before.before.before.before.before.requires)
@@ -49,11 +49,11 @@ shared-slice-read-if4-2 c = omega (arith, known c.before.before.before.before.be
 
 returns-4 : tie.Need-returns-4
 unfolding read read_shape
-returns-4 c = sym (admission-8 _ _ 0 (five c.before.before.before.before.before.before.before.before) (sym c.before.before.before.before.before.before.before.coordinates_allowed.ensures ∙ not-false _ c.before.before.before.before.before.before.if2.false) (seven c.before.before.before.before.before ∙ le-ltb _ _ c.before.before.before.if3.false) (count_rows c.before.before.before.before.before.before.before.before.before.before.before.args.w.now ∙ c.if4.true))
+returns-4 c = sym (admission_8 _ _ 0 (five c.before.before.before.before.before.before.before.before) (sym c.before.before.before.before.before.before.before.coordinates_allowed.ensures ∙ not-false _ c.before.before.before.before.before.before.if2.false) (seven c.before.before.before.before.before ∙ le-ltb _ _ c.before.before.before.if3.false) (count_rows c.before.before.before.before.before.before.before.before.before.before.before.args.w.now ∙ c.if4.true))
 
 returns-5 : tie.Need-returns-5
 unfolding read read_shape
-returns-5 c = sym (admission-passed _ _ 0 (five c.before.before.before.before.before.before.before.before) (sym c.before.before.before.before.before.before.before.coordinates_allowed.ensures ∙ not-false _ c.before.before.before.before.before.before.if2.false) (seven c.before.before.before.before.before ∙ le-ltb _ _ c.before.before.before.if3.false) (λ e. c.if4.false (sym (count_rows c.before.before.before.before.before.before.before.before.before.before.before.args.w.now) ∙ e)))
+returns-5 c = sym (admission_passed _ _ 0 (five c.before.before.before.before.before.before.before.before) (sym c.before.before.before.before.before.before.before.coordinates_allowed.ensures ∙ not-false _ c.before.before.before.before.before.before.if2.false) (seven c.before.before.before.before.before ∙ le-ltb _ _ c.before.before.before.if3.false) (λ e. c.if4.false (sym (count_rows c.before.before.before.before.before.before.before.before.before.before.before.args.w.now) ∙ e)))
 
 pub admission-spec : {M : Type 1} → statement M
 admission-spec =

@@ -8,7 +8,7 @@ use Rattle.words.specs.Places.{as_row, as_trial}
 use Rattle.words.proofs.Passed.{coordinates_small}
 use Rattle.calls.specs.Calls.{admission_rows}
 use Rattle.insertion.proofs.inserting.Admitting.{admitted}
-use Rattle.insertion.proofs.inserting.Outcomes.{enter-turned, enter-put, enter-same}
+use Rattle.insertion.proofs.inserting.Outcomes.{enter_turned, enter_put, enter_same}
 use Rattle.insertion.proofs.inserting.enter.Statement.{statement}
 use Rattle.insertion.proofs.inserting.enter.Tie as tie
 
@@ -36,7 +36,7 @@ same_length : tie.Need-same-length
 same_length c = search rules
 
 returns : tie.Need-returns
-returns c = enter-turned _ _ _ c.before.admission.ensures c.if1.true
+returns c = enter_turned _ _ _ c.before.admission.ensures c.if1.true
 
 new-requires : tie.Need-new-requires
 new-requires c κs =
@@ -68,7 +68,7 @@ returns-2 : tie.Need-returns-2
 returns-2 c =
     let new = c.before.before.before.before.before.before.before.before.before.before.before.before.before.before.before.before.before in
     let put = c.before.before.before.before.before.before.before.before.before.before.put_in in
-    enter-same _ _ _ (given new) (enter-put _ _ _ _ c.before.before.before.before.before.before.before.before.before.before.before.before.before.before.before.before.before.before.before.before.before.before.before.before.before.requires.0 (made new) put.ensures.0 put.ensures.1)
+    enter_same _ _ _ (given new) (enter_put _ _ _ _ c.before.before.before.before.before.before.before.before.before.before.before.before.before.before.before.before.before.before.before.before.before.before.before.before.before.requires.0 (made new) put.ensures.0 put.ensures.1)
 
 pub enter_spec : {M : Type 1} → statement M
 enter_spec =

@@ -7,7 +7,7 @@ use Rattle.words.specs.Format.{archive_rows}
 use Rattle.calls.specs.Calls.{insert_rows}
 use Rattle.calls.specs.Lent.{trial_of}
 use Rattle.insertion.proofs.Entering.{entered_passes, entered_renewed}
-use Rattle.insertion.proofs.inserting.Outcomes.{insert-refused, insert-turned, insert_done}
+use Rattle.insertion.proofs.inserting.Outcomes.{insert_refused, insert_turned, insert_done}
 use Rattle.insertion.proofs.inserting.insert.Statement.{statement}
 use Rattle.insertion.proofs.inserting.insert.Tie as tie
 
@@ -32,7 +32,7 @@ same_length : tie.Need-same-length
 same_length c = search rules
 
 returns : tie.Need-returns
-returns c = insert-refused _ _ _ c.before.refusal.ensures c.if1.true
+returns c = insert_refused _ _ _ c.before.refusal.ensures c.if1.true
 
 enter-alone-requires : tie.Need-enter-alone-requires
 enter-alone-requires c κs = passes c.before
@@ -41,7 +41,7 @@ same-length-2 : tie.Need-same-length-2
 same-length-2 c = search rules
 
 returns-2 : tie.Need-returns-2
-returns-2 c = insert-turned _ _ (passes c.before.before.before.before.before) c.before.before.before.enter-alone.ensures c.if2.true
+returns-2 c = insert_turned _ _ (passes c.before.before.before.before.before) c.before.before.before.enter-alone.ensures c.if2.true
 
 renew-requires : tie.Need-renew-requires
 renew-requires c κs = entered_passes _ _ _ (passes c.before.before.before.before.before.before) (rows_pass c.before) (c.before.before.before.before.enter-alone.ensures.done c.before.if2.false)

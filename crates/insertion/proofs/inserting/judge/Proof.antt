@@ -14,7 +14,7 @@ use Rattle.words.proofs.Places.{point_of_trial}
 use Rattle.calls.specs.Calls.{box_of, insert_gain}
 use Rattle.calls.proofs.Known.{known}
 use Rattle.ask.proofs.CountedAmounts.{all_gain, counted_few}
-use Rattle.insertion.proofs.inserting.Lowering.{counted-shares, judged-over, judged-each, gain-fits}
+use Rattle.insertion.proofs.inserting.Lowering.{counted_shares, judged_over, judged_each, gain_fits}
 use borrow.Author.Rules.{rules}
 use Rattle.insertion.proofs.inserting.judge.Statement.{statement}
 use Rattle.insertion.proofs.inserting.judge.Tie as tie
@@ -59,7 +59,7 @@ shared-slice-read-if1 : tie.Need-shared-slice-read-if1
 shared-slice-read-if1 c = omega (arith, known c.before.before.before.before.before.before.before.before.before.before.before.before.before.before.before.before.before.before.before.before.before.before.args.w.now c.before.before.before.before.before.before.before.before.before.before.before.before.before.before.before.before.before.before.before.before.before.before.requires.0)
 
 add-if1 : tie.Need-overflow-add-if1
-add-if1 c = omega (arith, gain-fits c.before.before.before.before.before.before.before.before.before.before.before.before.before.before.before.before.before.before.before.before.before.before.before.args.w.now _ _ c.before.before.before.before.before.before.before.before.before.before.before.before.before.before.before.before.before.before.before.before.before.before.before.requires.0 (gained c.before.before.before.before.before.before.before.before.before.before.before.before 0))
+add-if1 c = omega (arith, gain_fits c.before.before.before.before.before.before.before.before.before.before.before.before.before.before.before.before.before.before.before.before.before.before.before.args.w.now _ _ c.before.before.before.before.before.before.before.before.before.before.before.before.before.before.before.before.before.before.before.before.before.before.before.requires.0 (gained c.before.before.before.before.before.before.before.before.before.before.before.before 0))
 
 same_length : tie.Need-same-length
 same_length c = search rules
@@ -80,7 +80,7 @@ returns : tie.Need-returns
 returns c number =
     let counted = c.before.before.before.before.before.before.before.before.before.before.before.before.before in
     let start = own counted in
-    judged-over _ start.pre.0 (own-point start number) counted.count-joints-in.ensures (places_long counted) (counts_long counted) _ (boxed c.before.before.before) c.if1.true
+    judged_over _ start.pre.0 (own-point start number) counted.count-joints-in.ensures (places_long counted) (counts_long counted) _ (boxed c.before.before.before) c.if1.true
 
 slice-reshare-prefix-enough : tie.Need-slice-reshare-prefix-enough
 slice-reshare-prefix-enough c = omega (arith, few c.before.before.before.before.before.before.before.before.before.before.before.before.before, places_long c.before.before.before.before.before.before.before.before.before.before.before.before.before)
@@ -98,7 +98,7 @@ enough-requires : tie.Need-enough-requires
 enough-requires c κs =
     let counted = c.before.before.before.before.before.before.before.before.before.before.before.before.before.before.before in
     let start = own counted in
-    (omega (arith, known c.before.before.before.before.before.before.before.before.before.before.before.before.before.before.before.before.before.before.before.before.before.before.before.before.before.before.args.w.now c.before.before.before.before.before.before.before.before.before.before.before.before.before.before.before.before.before.before.before.before.before.before.before.before.before.before.requires.0), (counted-shares (as_trial 0 start.args.p.at) start.pre.0 (own-point start 0) counted.count-joints-in.ensures (places_long counted) (counts_long counted)).placed)
+    (omega (arith, known c.before.before.before.before.before.before.before.before.before.before.before.before.before.before.before.before.before.before.before.before.before.before.before.before.before.before.args.w.now c.before.before.before.before.before.before.before.before.before.before.before.before.before.before.before.before.before.before.before.before.before.before.before.before.before.before.requires.0), (counted_shares (as_trial 0 start.args.p.at) start.pre.0 (own-point start 0) counted.count-joints-in.ensures (places_long counted) (counts_long counted)).placed)
 
 same-length-6 : tie.Need-same-length-6
 same-length-6 c = search rules
@@ -119,7 +119,7 @@ returns-2 : tie.Need-returns-2
 returns-2 c number =
     let counted = c.before.before.before.before.before.before.before.before.before.before.before.before.before.before.before.before in
     let start = own counted in
-    judged-each _ start.pre.0 (own-point start number) counted.count-joints-in.ensures (places_long counted) (counts_long counted) _ (boxed c.before.before.before.before.before.before) _ c.before.before.before.if1.false c.enough.ensures
+    judged_each _ start.pre.0 (own-point start number) counted.count-joints-in.ensures (places_long counted) (counts_long counted) _ (boxed c.before.before.before.before.before.before) _ c.before.before.before.if1.false c.enough.ensures
 
 pub judge-spec : {M : Type 1} → statement M
 judge-spec =

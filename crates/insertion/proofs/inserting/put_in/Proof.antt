@@ -8,7 +8,7 @@ use Rattle.hypervolume.specs.Sorted.{Small}
 use Rattle.words.proofs.Places.{point_of_trial}
 use Rattle.words.proofs.Passed.{coordinates_small}
 use Rattle.insertion.proofs.inserting.Admitting.{admitted}
-use Rattle.insertion.proofs.inserting.Storing.{overruns, fits-box, storing}
+use Rattle.insertion.proofs.inserting.Storing.{overruns, fits_box, storing}
 use Rattle.calls.proofs.Answers.{row_13_given, row_13_passed}
 use Rattle.insertion.proofs.inserting.put_in.Statement.{statement}
 use Rattle.insertion.proofs.inserting.put_in.Tie as tie
@@ -77,7 +77,7 @@ same-length-12 : tie.Need-same-length-12
 same-length-12 c = search rules
 
 returns-2 : tie.Need-returns-2
-returns-2 c = row_13_passed _ _ _ _ (fits-box (c.before.before.before.before.before.before.before.before.before.before.before.before.before.before.before.before.judge.ensures _) (not-false _ c.before.before.before.before.before.before.if1.false)) c.before.before.store.ensures
+returns-2 c = row_13_passed _ _ _ _ (fits_box (c.before.before.before.before.before.before.before.before.before.before.before.before.before.before.before.before.judge.ensures _) (not-false _ c.before.before.before.before.before.before.if1.false)) c.before.before.store.ensures
 
 pub put-in-spec : {M : Type 1} → statement M
 put-in-spec =

@@ -4,18 +4,18 @@ use native.Mathlib.Omega.{arith}
 use mathlib.Core.Path.{refl}
 use lib.ListN.{length}
 use borrow.Author.Rules.{rules}
-use Rattle.insertion.proofs.starting.Outcomes.{start_room, start-refused, start_done}
+use Rattle.insertion.proofs.starting.Outcomes.{start_room, start_refused, start_done}
 use Rattle.insertion.proofs.starting.start.Statement.{statement}
 use Rattle.insertion.proofs.starting.start.Tie as tie
 
 room : (c : tie.Else1) → 8 + 5 * c.before.before.before.args.capacity ≤ length c.before.before.before.args.w.now
-room c = start_room _ _ c.before.start-row.ensures c.if1.false
+room c = start_room _ _ c.before.start_row.ensures c.if1.false
 
 start-row-requires : tie.Need-start-row-requires
 start-row-requires c κs = search rules
 
 returns : tie.Need-returns
-returns c = start-refused _ _ c.before.start-row.ensures c.if1.true
+returns c = start_refused _ _ c.before.start_row.ensures c.if1.true
 
 mul-clear : tie.Need-overflow-mul-clear
 mul-clear c = omega (arith, room c.before)
@@ -35,7 +35,7 @@ same_length c = search rules
 returns-2 : tie.Need-returns-2
 returns-2 c =
     let at-else = c.before.before.before.before.before.before.before.before in
-    start_done _ _ _ _ _ at-else.before.start-row.ensures at-else.if1.false refl
+    start_done _ _ _ _ _ at-else.before.start_row.ensures at-else.if1.false refl
     c.before.before.before.before.before.before.clear.ensures c.before.before.put-header.ensures
 
 pub start_spec : {M : Type 1} → statement M

@@ -7,7 +7,7 @@ use lib.ListN.{length}
 use Rattle.slices.proofs.PlacedLoops.{Judging, judging_found, judging_more, judging_end}
 use Rattle.words.specs.Places.{rows_before}
 use Rattle.records.specs.Columns.{column}
-use Rattle.records.proofs.amounts.KeptWords.{none_below, contribution-at}
+use Rattle.records.proofs.amounts.KeptWords.{none_below, contribution_at}
 use Rattle.records.proofs.amounts.enough.Statement.{statement}
 use Rattle.records.proofs.amounts.enough.Tie as tie
 
@@ -54,7 +54,7 @@ returns c =
     let at-loop = c.before.before.before.before.before in
     let start = at-loop.before in
     let l = c.before.before.before.before.loop-test.true in
-    judging_found at-loop.loop.invariant _ (contribution-at start.args.w.now _ _ start.requires.0 (start.requires.1.inside at-loop.loop.k l)) l (lt-ltb _ _ c.if1.true)
+    judging_found at-loop.loop.invariant _ (contribution_at start.args.w.now _ _ start.requires.0 (start.requires.1.inside at-loop.loop.k l)) l (lt-ltb _ _ c.if1.true)
 
 add-k : tie.Need-overflow-add-k invariant-loop decreases-loop
 add-k c = omega arith
@@ -67,7 +67,7 @@ loop-again c =
     let at-loop = c.before.before.before.before.before in
     let start = at-loop.before in
     let l = c.before.before.before.before.loop-test.true in
-    judging_more at-loop.loop.invariant _ (contribution-at start.args.w.now _ _ start.requires.0 (start.requires.1.inside at-loop.loop.k l)) l (le-ltb _ _ c.if1.false)
+    judging_more at-loop.loop.invariant _ (contribution_at start.args.w.now _ _ start.requires.0 (start.requires.1.inside at-loop.loop.k l)) l (le-ltb _ _ c.if1.false)
 
 returns-2 : tie.Need-returns-2 invariant-loop decreases-loop
 returns-2 c = judging_end c.before.loop.invariant c.loop-test.false

@@ -10,7 +10,7 @@ use borrow.Author.Tests.{ltb-false}
 use Rattle.slices.proofs.PlacedLoops.{no_pair_here}
 use Rattle.words.specs.Places.{rows_before}
 use Rattle.records.specs.Columns.{column}
-use Rattle.records.proofs.amounts.KeptWords.{Storing, storing-none, storing-inside, storing-here, storing-more, storing-end}
+use Rattle.records.proofs.amounts.KeptWords.{Storing, storing_none, storing_inside, storing_here, storing_more, storing_end}
 use Rattle.records.proofs.amounts.lower_at.Statement.{statement}
 use Rattle.records.proofs.amounts.lower_at.Tie as tie
 
@@ -21,7 +21,7 @@ abbrev decreases-loop : tie.decreases-loop
 decreases-loop w₀ n places counts k₀ w k = length places - k
 
 loop-holds : tie.Need-loop-init invariant-loop decreases-loop
-loop-holds c = storing-none c.requires.0.0 c.requires.0.1 (λ v. omega arith)
+loop-holds c = storing_none c.requires.0.0 c.requires.0.1 (λ v. omega arith)
 
 mul-p : tie.Need-overflow-mul-p invariant-loop decreases-loop
 mul-p c = omega arith
@@ -42,7 +42,7 @@ mul-w-2 : tie.Need-overflow-mul-w-2 invariant-loop decreases-loop
 mul-w-2 c = omega (arith, c.shared-slice-known.given c.before.before.loop.k)
 
 slice-read-w : tie.Need-slice-read-w invariant-loop decreases-loop
-slice-read-w c = storing-inside c.before.before.before.loop.invariant c.before.before.loop-test.true
+slice-read-w c = storing_inside c.before.before.before.loop.invariant c.before.before.loop-test.true
 
 mul-w-3 : tie.Need-overflow-mul-w-3 invariant-loop decreases-loop
 mul-w-3 c = omega arith
@@ -59,7 +59,7 @@ sub-w c =
     let p : ℕ = get_or start.args.places.now at-loop.loop.k 0 in
     let low : ltb (get_or held p 0) (get_or start.args.counts.now at-loop.loop.k 0) ≡ false =
     no_pair_here (λ v m. ltb v m) held at-loop.loop.k at-loop.loop.invariant.placing.size start.requires.0.1 start.requires.1 l in
-    omega (arith, storing-here at-loop.loop.invariant l, ltb-false (get_or held p 0) _ low)
+    omega (arith, storing_here at-loop.loop.invariant l, ltb-false (get_or held p 0) _ low)
 
 mul-w-4 : tie.Need-overflow-mul-w-4 invariant-loop decreases-loop
 mul-w-4 c = omega (arith, c.before.before.shared-slice-known.given c.before.before.before.before.loop.k)
@@ -71,7 +71,7 @@ mul-w-5 : tie.Need-overflow-mul-w-5 invariant-loop decreases-loop
 mul-w-5 c = omega (arith, c.before.before.shared-slice-known.given c.before.before.before.before.loop.k)
 
 slice-write-w : tie.Need-slice-write-w invariant-loop decreases-loop
-slice-write-w c = storing-inside c.before.before.before.before.loop.invariant c.before.before.before.loop-test.true
+slice-write-w c = storing_inside c.before.before.before.before.loop.invariant c.before.before.before.loop-test.true
 
 add-k : tie.Need-overflow-add-k invariant-loop decreases-loop
 add-k c = omega arith
@@ -80,13 +80,13 @@ loop-less : tie.Need-loop-smaller invariant-loop decreases-loop
 loop-less c = omega arith
 
 loop-again : tie.Need-loop-preserved invariant-loop decreases-loop
-loop-again c = storing-more c.before.before.before.before.loop.invariant c.before.before.before.loop-test.true
+loop-again c = storing_more c.before.before.before.before.loop.invariant c.before.before.before.loop-test.true
 
 same_length : tie.Need-same-length invariant-loop decreases-loop
 same_length c = c.before.loop.invariant.kept.long
 
 returns : tie.Need-returns invariant-loop decreases-loop
-returns c = storing-end c.before.loop.invariant c.loop-test.false
+returns c = storing_end c.before.loop.invariant c.loop-test.false
 
 pub lower-at-spec : {M : Type 1} → statement M
 lower-at-spec =

@@ -2,7 +2,7 @@
 use Prim.Native.Nat.{◌-◌, ◌+◌}
 use native.Mathlib.Omega.{arith}
 use lib.ListN.{length, get_or}
-use Rattle.records.proofs.amounts.KeptWords.{Storing, storing-none, storing-inside, storing-here, storing-more, storing-end}
+use Rattle.records.proofs.amounts.KeptWords.{Storing, storing_none, storing_inside, storing_here, storing_more, storing_end}
 use Rattle.records.proofs.amounts.raise_at.Statement.{statement}
 use Rattle.records.proofs.amounts.raise_at.Tie as tie
 
@@ -13,7 +13,7 @@ abbrev decreases-loop : tie.decreases-loop
 decreases-loop w₀ n places counts k₀ w k = length places - k
 
 loop-holds : tie.Need-loop-init invariant-loop decreases-loop
-loop-holds c = storing-none c.requires.0.0 c.requires.0.1 (λ v. omega arith)
+loop-holds c = storing_none c.requires.0.0 c.requires.0.1 (λ v. omega arith)
 
 mul-p : tie.Need-overflow-mul-p invariant-loop decreases-loop
 mul-p c = omega arith
@@ -34,7 +34,7 @@ mul-w-2 : tie.Need-overflow-mul-w-2 invariant-loop decreases-loop
 mul-w-2 c = omega (arith, c.shared-slice-known.given c.before.before.loop.k)
 
 slice-read-w : tie.Need-slice-read-w invariant-loop decreases-loop
-slice-read-w c = storing-inside c.before.before.before.loop.invariant c.before.before.loop-test.true
+slice-read-w c = storing_inside c.before.before.before.loop.invariant c.before.before.loop-test.true
 
 mul-w-3 : tie.Need-overflow-mul-w-3 invariant-loop decreases-loop
 mul-w-3 c = omega arith
@@ -48,7 +48,7 @@ add-w-2 c =
     let p = get_or at-loop.before.args.places.now at-loop.loop.k 0 in
     omega (
       arith,
-      storing-here at-loop.loop.invariant c.before.before.before.loop-test.true,
+      storing_here at-loop.loop.invariant c.before.before.before.loop-test.true,
       at-loop.before.requires.1.0 p,
       at-loop.before.requires.1.1 at-loop.loop.k,
     )
@@ -63,7 +63,7 @@ mul-w-5 : tie.Need-overflow-mul-w-5 invariant-loop decreases-loop
 mul-w-5 c = omega (arith, c.before.before.shared-slice-known.given c.before.before.before.before.loop.k)
 
 slice-write-w : tie.Need-slice-write-w invariant-loop decreases-loop
-slice-write-w c = storing-inside c.before.before.before.before.loop.invariant c.before.before.before.loop-test.true
+slice-write-w c = storing_inside c.before.before.before.before.loop.invariant c.before.before.before.loop-test.true
 
 add-k : tie.Need-overflow-add-k invariant-loop decreases-loop
 add-k c = omega arith
@@ -72,13 +72,13 @@ loop-less : tie.Need-loop-smaller invariant-loop decreases-loop
 loop-less c = omega arith
 
 loop-again : tie.Need-loop-preserved invariant-loop decreases-loop
-loop-again c = storing-more c.before.before.before.before.loop.invariant c.before.before.before.loop-test.true
+loop-again c = storing_more c.before.before.before.before.loop.invariant c.before.before.before.loop-test.true
 
 same_length : tie.Need-same-length invariant-loop decreases-loop
 same_length c = c.before.loop.invariant.kept.long
 
 returns : tie.Need-returns invariant-loop decreases-loop
-returns c = storing-end c.before.loop.invariant c.loop-test.false
+returns c = storing_end c.before.loop.invariant c.loop-test.false
 
 pub raise-at-spec : {M : Type 1} → statement M
 raise-at-spec =

@@ -8,7 +8,7 @@ use lib.Dec.{eqb}
 use Rattle.slices.proofs.PairLoops.{Seeking, seeking_none, seeking_end, differing_found, differing_more}
 use Rattle.words.specs.Places.{rows_before}
 use Rattle.records.specs.Columns.{column}
-use Rattle.records.proofs.amounts.KeptWords.{kept-none, contribution-at}
+use Rattle.records.proofs.amounts.KeptWords.{kept_none, contribution_at}
 use Rattle.records.proofs.amounts.some_differs.Statement.{statement}
 use Rattle.records.proofs.amounts.some_differs.Tie as tie
 
@@ -19,11 +19,11 @@ abbrev decreases-loop : tie.decreases-loop
 decreases-loop w counts i₀ i = length counts - i
 
 loop-holds : tie.Need-loop-init invariant-loop decreases-loop
-loop-holds c = seeking_none (sym (kept-none c.args.w.now _ c.requires).many)
+loop-holds c = seeking_none (sym (kept_none c.args.w.now _ c.requires).many)
 
 -- the contribution whose turn it is
 here : (c : tie.At-loop invariant-loop decreases-loop) → c.loop.i < length c.before.args.counts.now → get_or c.before.args.w.now (12 + 5 * c.loop.i) 0 ≡ get_or (column 4 (rows_before c.before.args.w.now (length c.before.args.counts.now))) c.loop.i 0
-here c l = contribution-at c.before.args.w.now (length c.before.args.counts.now) c.loop.i c.before.requires l
+here c l = contribution_at c.before.args.w.now (length c.before.args.counts.now) c.loop.i c.before.requires l
 
 mul-if1 : tie.Need-overflow-mul-if1 invariant-loop decreases-loop
 mul-if1 c = omega arith

@@ -7,7 +7,7 @@ use lib.ListN.{length, get_or}
 use Rattle.slices.proofs.PlacedLoops.{Judging, judging_found, judging_more, judging_end}
 use Rattle.words.specs.Places.{rows_before}
 use Rattle.records.specs.Columns.{column, leave_out}
-use Rattle.records.proofs.amounts.KeptWords.{none_above, word-but-inside, contribution-but}
+use Rattle.records.proofs.amounts.KeptWords.{none_above, word_but_inside, contribution_but}
 use Rattle.records.proofs.amounts.within.Statement.{statement}
 use Rattle.records.proofs.amounts.within.Tie as tie
 
@@ -47,7 +47,7 @@ shared-slice-read-if1 : tie.Need-shared-slice-read-if1 invariant-loop decreases-
 shared-slice-read-if1 c =
     let at-loop = c.before.before.before.before in
     let start = at-loop.before.before.before.before in
-    word-but-inside start.args.w.now _ _ _ _ start.requires.0.0 start.requires.0.1
+    word_but_inside start.args.w.now _ _ _ _ start.requires.0.0 start.requires.0.1
     (start.requires.0.2.inside at-loop.loop.k c.before.before.before.loop-test.true) c.before.place_but.ensures.0
 
 mul-if1-3 : tie.Need-overflow-mul-if1-3 invariant-loop decreases-loop
@@ -63,7 +63,7 @@ add-if1-2 c =
     let p = get_or start.args.places.now at-loop.loop.k 0 in
     omega (
       arith,
-      contribution-but start.args.w.now _ _ p _ start.requires.0.0 start.requires.0.1
+      contribution_but start.args.w.now _ _ p _ start.requires.0.0 start.requires.0.1
           (start.requires.0.2.inside at-loop.loop.k c.before.before.before.before.loop-test.true) c.before.before.place_but.ensures.0,
       start.requires.1.0 p,
       start.requires.1.1 at-loop.loop.k,
@@ -74,7 +74,7 @@ returns c =
     let at-loop = c.before.before.before.before.before.before in
     let start = at-loop.before.before.before.before in
     let l = c.before.before.before.before.before.loop-test.true in
-    judging_found at-loop.loop.invariant _ (contribution-but start.args.w.now _ _ _ _ start.requires.0.0 start.requires.0.1 (start.requires.0.2.inside at-loop.loop.k l) c.before.before.before.place_but.ensures.0) l (lt-ltb _ _ c.if1.true)
+    judging_found at-loop.loop.invariant _ (contribution_but start.args.w.now _ _ _ _ start.requires.0.0 start.requires.0.1 (start.requires.0.2.inside at-loop.loop.k l) c.before.before.before.place_but.ensures.0) l (lt-ltb _ _ c.if1.true)
 
 add-k : tie.Need-overflow-add-k invariant-loop decreases-loop
 add-k c = omega arith
@@ -87,7 +87,7 @@ loop-again c =
     let at-loop = c.before.before.before.before.before.before in
     let start = at-loop.before.before.before.before in
     let l = c.before.before.before.before.before.loop-test.true in
-    judging_more at-loop.loop.invariant _ (contribution-but start.args.w.now _ _ _ _ start.requires.0.0 start.requires.0.1 (start.requires.0.2.inside at-loop.loop.k l) c.before.before.before.place_but.ensures.0) l (le-ltb _ _ c.if1.false)
+    judging_more at-loop.loop.invariant _ (contribution_but start.args.w.now _ _ _ _ start.requires.0.0 start.requires.0.1 (start.requires.0.2.inside at-loop.loop.k l) c.before.before.before.place_but.ensures.0) l (le-ltb _ _ c.if1.false)
 
 returns-2 : tie.Need-returns-2 invariant-loop decreases-loop
 returns-2 c = judging_end c.before.loop.invariant c.loop-test.false

@@ -4,7 +4,7 @@ use mathlib.Core.Path.{◌≡◌}
 use native.Mathlib.Omega.{arith}
 use borrow.Author.Rules.{rules}
 use lib.ListN.{length}
-use Rattle.records.proofs.strides.LoadedPoints.{Copied, copied_none, copied_more, copied-end}
+use Rattle.records.proofs.strides.LoadedPoints.{Copied, copied_none, copied_more, copied_end}
 use Rattle.records.proofs.strides.gather_points.Statement.{statement}
 use Rattle.records.proofs.strides.gather_points.Tie as tie
 
@@ -45,7 +45,7 @@ same_length : tie.Need-same-length invariant-loop decreases-loop
 same_length c = c.before.loop.invariant.long
 
 returns : tie.Need-returns invariant-loop decreases-loop
-returns c = copied-end c.before.loop.invariant c.loop-test.false
+returns c = copied_end c.before.loop.invariant c.loop-test.false
 
 pub gather-points-spec : {M : Type 1} → statement M
 gather-points-spec =

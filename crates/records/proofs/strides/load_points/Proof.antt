@@ -2,7 +2,7 @@
 use mathlib.Core.Path.{refl}
 use native.Mathlib.Omega.{arith}
 use Rattle.calls.proofs.Known.{known}
-use Rattle.records.proofs.strides.LoadedPoints.{loaded-but, loaded_all}
+use Rattle.records.proofs.strides.LoadedPoints.{loaded_but, loaded_all}
 use borrow.Author.Rules.{rules}
 use Rattle.records.proofs.strides.load_points.Statement.{statement}
 use Rattle.records.proofs.strides.load_points.Tie as tie
@@ -44,7 +44,7 @@ same_length c = search rules
 returns : tie.Need-returns
 returns c =
     let start = c.before.before.before.before.before.before.before.before.before in
-    loaded-but start.args.w.now _ _ _ _ _ start.requires.0 refl c.before.before.before.if1.true
+    loaded_but start.args.w.now _ _ _ _ _ start.requires.0 refl c.before.before.before.if1.true
     c.before.before.before.before.before.gather-points.ensures c.before.gather-points2.ensures
 
 same-length-2 : tie.Need-same-length-2

@@ -1,7 +1,7 @@
 -- `close_points` meets its contract: a point is read before another is written over it.
 use Prim.Native.Nat.{◌-◌}
 use mathlib.Core.List.{[]}
-use Rattle.reduction.proofs.columns.Closing.{ClosedSoFar, closed_none, closed-next, closed-end}
+use Rattle.reduction.proofs.columns.Closing.{ClosedSoFar, closed_none, closed_next, closed_end}
 use borrow.Author.Rules.{rules}
 use Rattle.reduction.proofs.columns.close_points.Statement.{statement}
 use Rattle.reduction.proofs.columns.close_points.Tie as tie
@@ -40,13 +40,13 @@ loop-less : tie.Need-loop-smaller invariant-loop decreases-loop
 loop-less c = search rules
 
 loop-again : tie.Need-loop-preserved invariant-loop decreases-loop
-loop-again c = closed-next c.before.before.loop.invariant c.before.loop-test.true
+loop-again c = closed_next c.before.before.loop.invariant c.before.loop-test.true
 
 same_length : tie.Need-same-length invariant-loop decreases-loop
 same_length c = search rules
 
 returns : tie.Need-returns invariant-loop decreases-loop
-returns c = closed-end c.before.loop.invariant c.loop-test.false
+returns c = closed_end c.before.loop.invariant c.loop-test.false
 
 pub close-points-spec : {M : Type 1} → statement M
 close-points-spec =

@@ -2,7 +2,7 @@
 use Prim.Native.Nat.{◌-◌}
 use mathlib.Core.Path.{sym, ◌∙◌}
 use lib.ListN.{length}
-use Rattle.reduction.proofs.columns.Ranking.{RankedSoFar, ranked-none, ranked-stay, ranked-skip, ranked-first, ranked-end}
+use Rattle.reduction.proofs.columns.Ranking.{RankedSoFar, ranked_none, ranked_stay, ranked_skip, ranked_first, ranked_end}
 use borrow.Author.Rules.{rules}
 use Rattle.reduction.proofs.columns.least_in.Statement.{statement}
 use Rattle.reduction.proofs.columns.least_in.Tie as tie
@@ -20,7 +20,7 @@ shared-slice-read-least : tie.Need-shared-slice-read-least invariant-loop decrea
 shared-slice-read-least c = search rules
 
 loop-holds : tie.Need-loop-init invariant-loop decreases-loop
-loop-holds c = ranked-none _ _ _ c.before.before.before.before.requires.1
+loop-holds c = ranked_none _ _ _ c.before.before.before.before.requires.1
 
 mul_next : tie.Need-overflow-mul-next invariant-loop decreases-loop
 mul_next c = search rules
@@ -35,7 +35,7 @@ loop-less : tie.Need-loop-smaller invariant-loop decreases-loop
 loop-less c = search rules
 
 loop-again : tie.Need-loop-preserved invariant-loop decreases-loop
-loop-again c = ranked-skip c.before.before.before.loop.invariant c.before.before.loop-test.true c.if1.true
+loop-again c = ranked_skip c.before.before.before.loop.invariant c.before.before.loop-test.true c.if1.true
 
 mul-goes-first : tie.Need-overflow-mul-goes-first invariant-loop decreases-loop
 mul-goes-first c = search rules
@@ -59,7 +59,7 @@ loop-less-2 : tie.Need-loop-smaller-2 invariant-loop decreases-loop
 loop-less-2 c = search rules
 
 loop-again-2 : tie.Need-loop-preserved-2 invariant-loop decreases-loop
-loop-again-2 c = ranked-first c.before.before.before.before.before.before.before.loop.invariant c.before.before.before.before.before.before.loop-test.true (sym c.before.before.goes_first.ensures ∙ c.before.if2.true)
+loop-again-2 c = ranked_first c.before.before.before.before.before.before.before.loop.invariant c.before.before.before.before.before.before.loop-test.true (sym c.before.before.goes_first.ensures ∙ c.before.if2.true)
 
 add-i-3 : tie.Need-overflow-add-i-3 invariant-loop decreases-loop
 add-i-3 c = search rules
@@ -68,10 +68,10 @@ loop-less-3 : tie.Need-loop-smaller-3 invariant-loop decreases-loop
 loop-less-3 c = search rules
 
 loop-again-3 : tie.Need-loop-preserved-3 invariant-loop decreases-loop
-loop-again-3 c = ranked-stay c.before.before.before.before.before.before.loop.invariant c.before.before.before.before.before.loop-test.true (sym c.before.goes_first.ensures ∙ c.if2.false)
+loop-again-3 c = ranked_stay c.before.before.before.before.before.before.loop.invariant c.before.before.before.before.before.loop-test.true (sym c.before.goes_first.ensures ∙ c.if2.false)
 
 returns : tie.Need-returns invariant-loop decreases-loop
-returns c = ranked-end c.before.loop.invariant c.loop-test.false
+returns c = ranked_end c.before.loop.invariant c.loop-test.false
 
 pub least-in-spec : {M : Type 1} → statement M
 least-in-spec =

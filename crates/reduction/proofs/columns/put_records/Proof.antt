@@ -1,6 +1,6 @@
 -- `put_records` meets its contract: i records are written.
 use Prim.Native.Nat.{◌-◌}
-use Rattle.reduction.proofs.columns.Records.{RecordsPut, records-none, records-more, records-end}
+use Rattle.reduction.proofs.columns.Records.{RecordsPut, records_none, records_more, records_end}
 use borrow.Author.Rules.{rules}
 use Rattle.reduction.proofs.columns.put_records.Statement.{statement}
 use Rattle.reduction.proofs.columns.put_records.Tie as tie
@@ -12,7 +12,7 @@ abbrev decreases-loop : tie.decreases-loop
 decreases-loop w₀ n numbers points kept i₀ w i = n - i
 
 loop-holds : tie.Need-loop-init invariant-loop decreases-loop
-loop-holds c = records-none _ _ _ _ _
+loop-holds c = records_none _ _ _ _ _
 
 mul-t9 : tie.Need-overflow-mul-t9 invariant-loop decreases-loop
 mul-t9 c = search rules
@@ -45,13 +45,13 @@ loop-less : tie.Need-loop-smaller invariant-loop decreases-loop
 loop-less c = search rules
 
 loop-again : tie.Need-loop-preserved invariant-loop decreases-loop
-loop-again c = records-more _ _ c.before.before.before.before.before.before.before.before.loop.invariant c.before.before.before.before.before.before.before.loop-test.true c.before.before.before.before.before.before.before.before.before.before.before.before.requires.0 c.before.before.before.before.before.point_at.ensures c.before.before.put_record.ensures c.before.before.put_record.auto.0
+loop-again c = records_more _ _ c.before.before.before.before.before.before.before.before.loop.invariant c.before.before.before.before.before.before.before.loop-test.true c.before.before.before.before.before.before.before.before.before.before.before.before.requires.0 c.before.before.before.before.before.point_at.ensures c.before.before.put_record.ensures c.before.before.put_record.auto.0
 
 same_length : tie.Need-same-length invariant-loop decreases-loop
 same_length c = c.before.loop.invariant.long
 
 returns : tie.Need-returns invariant-loop decreases-loop
-returns c = records-end c.before.loop.invariant c.loop-test.false
+returns c = records_end c.before.loop.invariant c.loop-test.false
 
 pub put-records-spec : {M : Type 1} → statement M
 put-records-spec =

@@ -2,7 +2,7 @@
 use Prim.Native.Nat.{◌-◌}
 use mathlib.Core.Path.{refl, sym}
 use native.Mathlib.Omega.{arith}
-use Rattle.reduction.proofs.reducing.Dropping.{DropsMade, some_left, fewer-left, log-room, drops-none, drop-ready, drop-room, drops-next, drops-end}
+use Rattle.reduction.proofs.reducing.Dropping.{DropsMade, some_left, fewer_left, log_room, drops_none, drop_ready, drop_room, drops_next, drops_end}
 use Rattle.reduction.proofs.reducing.drop_all.Statement.{statement}
 use Rattle.reduction.proofs.reducing.drop_all.Tie as tie
 
@@ -15,7 +15,7 @@ decreases-loop numbers₀ points₀ kept₀ n total reference rule drops log₀ 
     drops - i
 
 loop-holds : tie.Need-loop-init invariant-loop decreases-loop
-loop-holds c = drops-none _ _ _ _ _ _ _ _ _ _ _ _ _ (record { corners_long = refl; places_long = refl; line_long = refl; counts_long = refl })
+loop-holds c = drops_none _ _ _ _ _ _ _ _ _ _ _ _ _ (record { corners_long = refl; places_long = refl; line_long = refl; counts_long = refl })
 
 sub-drop-least : tie.Need-overflow-sub-drop-least invariant-loop decreases-loop
 sub-drop-least c = omega (arith, c.before.before.before.loop-test.true, c.before.before.before.before.before.before.before.before.requires.2)
@@ -36,31 +36,31 @@ mul-drop-least : tie.Need-overflow-mul-drop-least invariant-loop decreases-loop
 mul-drop-least c = omega (arith, c.before.before.before.before.before.before.before.before.loop-test.true, c.before.before.before.before.before.before.before.before.before.before.before.before.before.requires.2, c.before.before.before.before.before.before.before.before.before.before.before.before.before.requires.1)
 
 drop-least-requires : tie.Need-drop-least-requires invariant-loop decreases-loop
-drop-least-requires c κs = (drop-ready c.before.before.before.before.before.before.before.before.before.loop.invariant c.before.before.before.before.before.before.before.before.before.before.before.before.before.requires.0, some_left _ _ _ c.before.before.before.before.before.before.before.before.loop-test.true c.before.before.before.before.before.before.before.before.before.before.before.before.before.requires.2, drop-room c.before.before.before.before.before.before.before.before.before.loop.invariant c.before.before.before.before.before.before.before.before.before.before.before.before.before.requires.1, log-room c.before.before.before.before.before.before.before.before.before.loop.invariant c.before.before.before.before.before.before.before.before.loop-test.true c.before.before.before.before.before.before.before.before.before.before.before.before.before.requires.3)
+drop-least-requires c κs = (drop_ready c.before.before.before.before.before.before.before.before.before.loop.invariant c.before.before.before.before.before.before.before.before.before.before.before.before.before.requires.0, some_left _ _ _ c.before.before.before.before.before.before.before.before.loop-test.true c.before.before.before.before.before.before.before.before.before.before.before.before.before.requires.2, drop_room c.before.before.before.before.before.before.before.before.before.loop.invariant c.before.before.before.before.before.before.before.before.before.before.before.before.before.requires.1, log_room c.before.before.before.before.before.before.before.before.before.loop.invariant c.before.before.before.before.before.before.before.before.loop-test.true c.before.before.before.before.before.before.before.before.before.before.before.before.before.requires.3)
 
 add-i : tie.Need-overflow-add-i invariant-loop decreases-loop
 add-i c = omega (arith, c.before.before.before.before.before.before.before.before.before.before.before.before.before.before.before.before.before.before.before.before.loop-test.true, c.before.before.before.before.before.before.before.before.before.before.before.before.before.before.before.before.before.before.before.before.before.before.before.before.before.requires.2, c.before.before.before.before.before.before.before.before.before.before.before.before.before.before.before.before.before.before.before.before.before.before.before.before.before.requires.1)
 
 loop-less : tie.Need-loop-smaller invariant-loop decreases-loop
-loop-less c = fewer-left _ _ c.before.before.before.before.before.before.before.before.before.before.before.before.before.before.before.before.before.before.before.before.loop-test.true
+loop-less c = fewer_left _ _ c.before.before.before.before.before.before.before.before.before.before.before.before.before.before.before.before.before.before.before.before.loop-test.true
 
 loop-again : tie.Need-loop-preserved invariant-loop decreases-loop
-loop-again c = drops-next c.before.before.before.before.before.before.before.before.before.before.before.before.before.before.before.before.before.before.before.before.before.loop.invariant _ _ _ _ _ _ _ _ _ c.before.before.before.before.before.before.before.before.before.before.before.before.before.before.before.before.before.before.before.before.loop-test.true c.before.before.before.before.before.before.before.before.before.before.before.before.before.before.before.before.before.before.before.before.before.before.before.before.before.requires.2 c.before.before.before.before.before.before.before.before.before.before.before.before.before.before.before.before.before.before.before.before.before.before.before.before.before.requires.3 c.before.before.before.before.before.before.before.before.before.before.before.drop-least.ensures c.before.before.before.before.before.before.before.before.before.before.before.drop-least.auto.0 c.before.before.before.before.before.before.before.before.before.before.before.drop-least.auto.1.0 c.before.before.before.before.before.before.before.before.before.before.before.drop-least.auto.1.1.0 c.before.before.before.before.before.before.before.before.before.before.before.drop-least.auto.1.1.1.1.1.1.1.1.1.1.1.0 c.before.before.before.before.before.before.before.before.before.before.before.drop-least.auto.1.1.1.1.1.1.1.0 c.before.before.before.before.before.before.before.before.before.before.before.drop-least.auto.1.1.1.1.1.1.1.1.0 c.before.before.before.before.before.before.before.before.before.before.before.drop-least.auto.1.1.1.1.1.1.1.1.1.0 c.before.before.before.before.before.before.before.before.before.before.before.drop-least.auto.1.1.1.1.1.1.1.1.1.1.0
+loop-again c = drops_next c.before.before.before.before.before.before.before.before.before.before.before.before.before.before.before.before.before.before.before.before.before.loop.invariant _ _ _ _ _ _ _ _ _ c.before.before.before.before.before.before.before.before.before.before.before.before.before.before.before.before.before.before.before.before.loop-test.true c.before.before.before.before.before.before.before.before.before.before.before.before.before.before.before.before.before.before.before.before.before.before.before.before.before.requires.2 c.before.before.before.before.before.before.before.before.before.before.before.before.before.before.before.before.before.before.before.before.before.before.before.before.before.requires.3 c.before.before.before.before.before.before.before.before.before.before.before.drop-least.ensures c.before.before.before.before.before.before.before.before.before.before.before.drop-least.auto.0 c.before.before.before.before.before.before.before.before.before.before.before.drop-least.auto.1.0 c.before.before.before.before.before.before.before.before.before.before.before.drop-least.auto.1.1.0 c.before.before.before.before.before.before.before.before.before.before.before.drop-least.auto.1.1.1.1.1.1.1.1.1.1.1.0 c.before.before.before.before.before.before.before.before.before.before.before.drop-least.auto.1.1.1.1.1.1.1.0 c.before.before.before.before.before.before.before.before.before.before.before.drop-least.auto.1.1.1.1.1.1.1.1.0 c.before.before.before.before.before.before.before.before.before.before.before.drop-least.auto.1.1.1.1.1.1.1.1.1.0 c.before.before.before.before.before.before.before.before.before.before.before.drop-least.auto.1.1.1.1.1.1.1.1.1.1.0
 
 same_length : tie.Need-same-length invariant-loop decreases-loop
-same_length c = c.before.loop.invariant.numbers-long
+same_length c = c.before.loop.invariant.numbers_long
 
 same-length-2 : tie.Need-same-length-2 invariant-loop decreases-loop
-same-length-2 c = c.before.loop.invariant.coordinates-long
+same-length-2 c = c.before.loop.invariant.coordinates_long
 
 same-length-3 : tie.Need-same-length-3 invariant-loop decreases-loop
-same-length-3 c = c.before.loop.invariant.kept-long
+same-length-3 c = c.before.loop.invariant.kept_long
 
 same-length-4 : tie.Need-same-length-4 invariant-loop decreases-loop
-same-length-4 c = c.before.loop.invariant.log-long
+same-length-4 c = c.before.loop.invariant.log_long
 
 returns : tie.Need-returns invariant-loop decreases-loop
-returns c = drops-end c.before.loop.invariant c.loop-test.false
+returns c = drops_end c.before.loop.invariant c.loop-test.false
 
 pub drop-all-spec : {M : Type 1} → statement M
 drop-all-spec =

@@ -3,7 +3,7 @@ use mathlib.Core.Path.{refl, sym, ◌∙◌}
 use native.Mathlib.Omega.{arith}
 use Rattle.calls.proofs.Known.{known}
 use Rattle.reduction.proofs.reducing.Rows.{reducible}
-use Rattle.reduction.proofs.reducing.Outcomes.{reduce-refused, reduce-turned, reduce-dropped}
+use Rattle.reduction.proofs.reducing.Outcomes.{reduce_refused, reduce_turned, reduce_dropped}
 use borrow.Author.Rules.{rules}
 use Rattle.reduction.proofs.reducing.reduce.Statement.{statement}
 use Rattle.reduction.proofs.reducing.reduce.Tie as tie
@@ -18,7 +18,7 @@ same_length : tie.Need-same-length
 same_length c = search rules
 
 returns : tie.Need-returns
-returns c = reduce-refused c.before.before.before.before.before.before.args.w.now _ _ _ _ _ c.before.before.refusal.ensures c.before.if1.true c.refused.ensures
+returns c = reduce_refused c.before.before.before.before.before.before.args.w.now _ _ _ _ _ c.before.before.refusal.ensures c.before.if1.true c.refused.ensures
 
 reduce-rows-requires : tie.Need-reduce-rows-requires
 reduce-rows-requires c κs = (sym c.before.before.refusal.ensures ∙ c.before.if1.false)
@@ -31,7 +31,7 @@ same-length-2 c = search rules
 
 returns-2 : tie.Need-returns-2
 returns-2 c =
-    reduce-turned c.before.before.before.before.before.before.before.before.before.args.w.now _ _ _ _ _ (sym c.before.before.before.before.before.refusal.ensures ∙ c.before.before.before.before.if1.false) c.before.before.reduce_rows.ensures
+    reduce_turned c.before.before.before.before.before.before.before.before.before.args.w.now _ _ _ _ _ (sym c.before.before.before.before.before.refusal.ensures ∙ c.before.before.before.before.if1.false) c.before.before.reduce_rows.ensures
     c.before.if2.true c.refused2.ensures
 
 slice-read-drops : tie.Need-slice-read-drops
@@ -56,7 +56,7 @@ same-length-4 c = search rules
 
 returns-3 : tie.Need-returns-3
 returns-3 c =
-    reduce-dropped c.before.before.before.before.before.before.before.before.before.before.before.before.before.before.before.before.before.args.w.now _ _ _ _ _ _ _ (sym c.before.before.before.before.before.before.before.before.before.before.before.before.before.refusal.ensures ∙ c.before.before.before.before.before.before.before.before.before.before.before.before.if1.false)
+    reduce_dropped c.before.before.before.before.before.before.before.before.before.before.before.before.before.before.before.before.before.args.w.now _ _ _ _ _ _ _ (sym c.before.before.before.before.before.before.before.before.before.before.before.before.before.refusal.ensures ∙ c.before.before.before.before.before.before.before.before.before.before.before.before.if1.false)
     (sym c.before.before.before.before.before.before.before.before.before.before.reduce_rows.ensures ∙ c.before.before.before.before.before.before.before.before.before.if2.false) refl c.before.before.before.before.before.reduce_by.ensures c.done.ensures
 
 pub reduce-spec : {M : Type 1} → statement M

@@ -19,7 +19,7 @@ use Rattle.calls.specs.Calls.{box_of, removal_loss}
 use Rattle.calls.proofs.Known.{known}
 use Rattle.ask.proofs.CountedAmounts.{counted_few}
 use Rattle.removal.specs.Removing.{number_at, removal_shares}
-use Rattle.removal.proofs.removing.Raising.{loss-counted, shares-counted, low-asked, limit-fits, raised-over, raised-judged}
+use Rattle.removal.proofs.removing.Raising.{loss_counted, shares_counted, low_asked, limit_fits, raised_over, raised_judged}
 use borrow.Author.Rules.{rules}
 use Rattle.removal.proofs.removing.raised.Statement.{statement}
 use Rattle.removal.proofs.removing.raised.Tie as tie
@@ -33,10 +33,10 @@ few : (c : tie.After-count-joints) → c.count-joints.result.moved ≤ 512
 few c = counted_few c.before.before.before.before.before.before.before.before.requires.0 c.count-joints.ensures
 
 lost : (c : tie.After-count-joints) → c.count-joints.result.gain ≡ removal_loss (read c.before.before.before.before.before.before.before.before.args.w.now) (number_at c.before.before.before.before.before.before.before.before.args.w.now c.before.before.before.before.before.before.before.before.args.k)
-lost c = loss-counted c.before.before.before.before.before.before.before.before.requires.0 c.before.before.before.before.before.before.before.before.requires.1 (read-point c.before.before.before) c.count-joints.ensures
+lost c = loss_counted c.before.before.before.before.before.before.before.before.requires.0 c.before.before.before.before.before.before.before.before.requires.1 (read-point c.before.before.before) c.count-joints.ensures
 
 each : (c : tie.After-count-joints) → Sparse (word c.before.before.before.before.before.before.before.before.args.w.now 0 - 1) (removal_shares c.before.before.before.before.before.before.before.before.args.w.now c.before.before.before.before.before.before.before.before.args.k) c.count-joints.new.1.1.1.0 c.count-joints.new.1.1.1.1.0 c.count-joints.result.moved
-each c = shares-counted c.before.before.before.before.before.before.before.before.requires.0 c.before.before.before.before.before.before.before.before.requires.1 (read-point c.before.before.before) c.count-joints.ensures
+each c = shares_counted c.before.before.before.before.before.before.before.before.requires.0 c.before.before.before.before.before.before.before.before.requires.1 (read-point c.before.before.before) c.count-joints.ensures
 
 placed : (c : tie.After-count-joints) → Placed (word c.before.before.before.before.before.before.before.before.args.w.now 0 - 1) (take c.count-joints.result.moved c.count-joints.new.1.1.1.0) (take c.count-joints.result.moved c.count-joints.new.1.1.1.1.0)
 placed c = sparse_placed (each c) (omega (arith, few c, c.count-joints.auto, c.before.before.before.before.before.before.before.before.requires.2)) (omega (arith, few c, c.count-joints.auto, c.before.before.before.before.before.before.before.before.requires.3))
@@ -68,7 +68,7 @@ same-length-2 c = search rules
 returns : tie.Need-returns
 returns c =
     let start = c.before.before.before.before.before.before.before.before.before.before.before.before.before.before.before in
-    raised-over start.args.w.now _ start.requires.0 start.requires.1 (lost c.before.before.before.before.before.before.before) (each c.before.before.before.before.before.before.before) c.if1.true
+    raised_over start.args.w.now _ start.requires.0 start.requires.1 (lost c.before.before.before.before.before.before.before) (each c.before.before.before.before.before.before.before) c.if1.true
 
 slice-reshare-prefix-within : tie.Need-slice-reshare-prefix-within
 slice-reshare-prefix-within c = omega (arith, few c.before.before.before.before.before.before.before, c.before.before.before.before.before.before.before.count-joints.auto, c.before.before.before.before.before.before.before.before.before.before.before.before.before.before.before.requires.2)
@@ -92,8 +92,8 @@ within-requires : tie.Need-within-requires
 within-requires c κs =
     let start = c.before.before.before.before.before.before.before.before.before.before.before.before.before.before.before.before.before.before.before in
     let counted = c.before.before.before.before.before.before.before.before.before.before.before in (
-      ((known start.args.w.now start.requires.0).records_long, start.requires.1, placed counted, limit-fits start.args.w.now _ start.requires.0 (boxed c)),
-      low-asked start.args.w.now _ _ start.requires.0 (boxed c) (placed counted) (sym (each counted).is_spread),
+      ((known start.args.w.now start.requires.0).records_long, start.requires.1, placed counted, limit_fits start.args.w.now _ start.requires.0 (boxed c)),
+      low_asked start.args.w.now _ _ start.requires.0 (boxed c) (placed counted) (sym (each counted).is_spread),
     )
 
 same-length-3 : tie.Need-same-length-3
@@ -105,7 +105,7 @@ same-length-4 c = search rules
 returns-2 : tie.Need-returns-2
 returns-2 c =
     let start = c.before.before.before.before.before.before.before.before.before.before.before.before.before.before.before.before.before.before.before.before in
-    raised-judged start.args.w.now _ start.requires.0 start.requires.1 (lost c.before.before.before.before.before.before.before.before.before.before.before.before) (each c.before.before.before.before.before.before.before.before.before.before.before.before) c.before.before.before.before.before.if1.false (boxed c.before) c.within.ensures
+    raised_judged start.args.w.now _ start.requires.0 start.requires.1 (lost c.before.before.before.before.before.before.before.before.before.before.before.before) (each c.before.before.before.before.before.before.before.before.before.before.before.before) c.before.before.before.before.before.if1.false (boxed c.before) c.within.ensures
 
 pub raised-spec : {M : Type 1} → statement M
 raised-spec =

@@ -4,7 +4,7 @@ use native.Mathlib.Omega.{arith}
 use lib.ListN.{length-set}
 use borrow.Author.Rules.{rules}
 use Rattle.calls.proofs.Known.{known}
-use Rattle.removal.proofs.removing.Storing.{raising-asked, removal-stored}
+use Rattle.removal.proofs.removing.Storing.{raising_asked, removal_stored}
 use Rattle.removal.proofs.removing.store.Statement.{statement}
 use Rattle.removal.proofs.removing.store.Tie as tie
 
@@ -27,7 +27,7 @@ raise-at-requires : tie.Need-raise-at-requires
 raise-at-requires c κs =
     let start = c.before.before.before.before.before.before.before.before.before.before in (
       (omega (arith, known c.before.before.before.before.before.before.before.before.before.before.args.w.now c.before.before.before.before.before.before.before.before.before.before.requires.passes, c.before.before.before.strike.auto.0), start.requires.placed),
-      raising-asked start.args.w.now _ start.requires refl refl c.before.before.before.strike.ensures,
+      raising_asked start.args.w.now _ start.requires refl refl c.before.before.before.strike.ensures,
     )
 
 slice-write-w : tie.Need-slice-write-w
@@ -45,7 +45,7 @@ same_length c = simp length-set (omega (arith, c.before.before.before.before.bef
 returns : tie.Need-returns
 returns c =
     let start = c.before.before.before.before.before.before.before.before.before.before.before.before.before in
-    removal-stored start.args.w.now _ start.requires refl refl c.before.before.before.before.before.before.strike.ensures _ _ c.before.before.raise-at.ensures refl
+    removal_stored start.args.w.now _ start.requires refl refl c.before.before.before.before.before.before.strike.ensures _ _ c.before.before.raise-at.ensures refl
 
 pub store_spec : {M : Type 1} → statement M
 store_spec =

@@ -6,7 +6,7 @@ use lib.Seq.{length-take-le}
 use borrow.Author.Rules.{rules}
 use borrow.Author.Tests.{not-true, not-false}
 use Rattle.calls.proofs.Answers.{row_13_given, row_13_passed}
-use Rattle.removal.proofs.removing.Storing.{overruns, fits-box, places-few, striking, removal-passes, removal-renewed}
+use Rattle.removal.proofs.removing.Storing.{overruns, fits_box, places_few, striking, removal_passes, removal_renewed}
 use Rattle.removal.proofs.removing.take_out.Statement.{statement}
 use Rattle.removal.proofs.removing.take_out.Tie as tie
 
@@ -21,7 +21,7 @@ raised-requires c κs = (c.before.before.before.before.requires.0, c.before.befo
 
 -- what was counted fits
 few : (c : tie.After-raised) → c.raised.result.places ≤ 512
-few c = places-few c.raised.ensures c.before.before.before.before.before.requires.0
+few c = places_few c.raised.ensures c.before.before.before.before.before.requires.0
 
 same_length : tie.Need-same-length
 same_length c = search rules
@@ -45,13 +45,13 @@ store-requires : tie.Need-store-requires
 store-requires c κs = striking c.before.before.before.before.before.before.before.raised.ensures c.before.before.before.before.before.before.before.before.before.before.before.before.requires.0 (search rules) (search rules) c.before.before.before.before.before.before.before.before.before.before.before.before.requires.1 (not-false _ c.before.before.before.if1.false)
 
 renew-requires : tie.Need-renew-requires
-renew-requires c κs = removal-passes _ _ _ c.before.before.before.before.before.before.before.before.before.before.before.before.before.before.before.before.requires.0 c.before.before.before.before.before.before.before.before.before.before.before.before.before.before.before.before.requires.1 (fits-box c.before.before.before.before.before.before.before.before.before.before.before.raised.ensures (not-false _ c.before.before.before.before.before.before.before.if1.false)) c.before.before.before.store.ensures
+renew-requires c κs = removal_passes _ _ _ c.before.before.before.before.before.before.before.before.before.before.before.before.before.before.before.before.requires.0 c.before.before.before.before.before.before.before.before.before.before.before.before.before.before.before.before.requires.1 (fits_box c.before.before.before.before.before.before.before.before.before.before.before.raised.ensures (not-false _ c.before.before.before.before.before.before.before.if1.false)) c.before.before.before.store.ensures
 
 same-length-2 : tie.Need-same-length-2
 same-length-2 c = search rules
 
 returns-2 : tie.Need-returns-2
-returns-2 c = row_13_passed _ _ _ _ (fits-box c.before.before.before.before.before.before.before.before.before.before.before.before.before.before.raised.ensures (not-false _ c.before.before.before.before.before.before.before.before.before.before.if1.false)) (removal-renewed _ _ _ c.before.before.before.before.before.before.before.before.before.before.before.before.before.before.before.before.before.before.before.requires.0 c.before.before.before.before.before.before.before.before.before.before.before.before.before.before.before.before.before.before.before.requires.1 (fits-box c.before.before.before.before.before.before.before.before.before.before.before.before.before.before.raised.ensures (not-false _ c.before.before.before.before.before.before.before.before.before.before.if1.false)) c.before.before.before.before.before.before.store.ensures _ c.before.before.renew.ensures)
+returns-2 c = row_13_passed _ _ _ _ (fits_box c.before.before.before.before.before.before.before.before.before.before.before.before.before.before.raised.ensures (not-false _ c.before.before.before.before.before.before.before.before.before.before.if1.false)) (removal_renewed _ _ _ c.before.before.before.before.before.before.before.before.before.before.before.before.before.before.before.before.before.before.before.requires.0 c.before.before.before.before.before.before.before.before.before.before.before.before.before.before.before.before.before.before.before.requires.1 (fits_box c.before.before.before.before.before.before.before.before.before.before.before.before.before.before.raised.ensures (not-false _ c.before.before.before.before.before.before.before.before.before.before.if1.false)) c.before.before.before.before.before.before.store.ensures _ c.before.before.renew.ensures)
 
 pub take-out-spec : {M : Type 1} → statement M
 take-out-spec =

@@ -1,7 +1,7 @@
 -- `ascends` meets its contract. The invariant: the numbers passed are equal, so those left decide.
 use Prim.Native.Nat.{◌-◌}
 use borrow.Author.Rules.{rules}
-use Rattle.words.proofs.check.AscendsLaws.{Level, level-none, level-less, level_more, level-same, level-end}
+use Rattle.words.proofs.check.AscendsLaws.{Level, level_none, level_less, level_more, level_same, level_end}
 use Rattle.words.proofs.check.ascends.Statement.{statement}
 use Rattle.words.proofs.check.ascends.Tie as tie
 
@@ -12,7 +12,7 @@ abbrev decreases-loop : tie.decreases-loop
 decreases-loop a b i₀ i = 4 - i
 
 loop-holds : tie.Need-loop-init invariant-loop decreases-loop
-loop-holds c = level-none 4 _ _ (search rules) (search rules)
+loop-holds c = level_none 4 _ _ (search rules) (search rules)
 
 mul-if1 : tie.Need-overflow-mul-if1 invariant-loop decreases-loop
 mul-if1 c = search rules
@@ -27,7 +27,7 @@ array-read-if1-2 : tie.Need-array-read-if1-2 invariant-loop decreases-loop
 array-read-if1-2 c = search rules
 
 returns : tie.Need-returns invariant-loop decreases-loop
-returns c = level-less c.before.before.loop.invariant c.before.loop-test.true c.if1.true
+returns c = level_less c.before.before.loop.invariant c.before.loop-test.true c.if1.true
 
 mul-if2 : tie.Need-overflow-mul-if2 invariant-loop decreases-loop
 mul-if2 c = search rules
@@ -51,10 +51,10 @@ loop-less : tie.Need-loop-smaller invariant-loop decreases-loop
 loop-less c = search rules
 
 loop-again : tie.Need-loop-preserved invariant-loop decreases-loop
-loop-again c = level-same c.before.before.before.loop.invariant c.before.before.loop-test.true c.before.if1.false c.if2.false
+loop-again c = level_same c.before.before.before.loop.invariant c.before.before.loop-test.true c.before.if1.false c.if2.false
 
 returns-3 : tie.Need-returns-3 invariant-loop decreases-loop
-returns-3 c = level-end c.before.loop.invariant c.loop-test.false
+returns-3 c = level_end c.before.loop.invariant c.loop-test.false
 
 pub ascends-spec : {M : Type 1} → statement M
 ascends-spec =

@@ -9,11 +9,11 @@ use Rattle.hypervolume.specs.Cells.{box, edges}
 use Rattle.words.proofs.check.box_of.Statement.{statement}
 use Rattle.words.proofs.check.box_of.Tie as tie
 
-edges-origin : (r : List ℕ) (n : ℕ) → edges r (replicate n 0) ≡ box r
+edges_origin : (r : List ℕ) (n : ℕ) → edges r (replicate n 0) ≡ box r
 unfolding edges box
-edges-origin [] n = refl
-edges-origin (r ∷ rs) zero = ap (λ k. r * k) (edges-origin rs 0)
-edges-origin (r ∷ rs) (suc n) = ap₂ ◌*◌ (sub-zero r) (edges-origin rs n)
+edges_origin [] n = refl
+edges_origin (r ∷ rs) zero = ap (λ k. r * k) (edges_origin rs 0)
+edges_origin (r ∷ rs) (suc n) = ap₂ ◌*◌ (sub-zero r) (edges_origin rs n)
 
 new-requires : tie.Need-new-requires
 new-requires c κs = search rules
@@ -22,7 +22,7 @@ edges-requires : tie.Need-edges-requires
 edges-requires c κs = search rules
 
 returns : tie.Need-returns
-returns c = c.edges.ensures ∙ ap (edges _) c.before.new.ensures ∙ edges-origin _ 3
+returns c = c.edges.ensures ∙ ap (edges _) c.before.new.ensures ∙ edges_origin _ 3
 
 pub box-of-spec : {M : Type 1} → statement M
 box-of-spec = tie.close (tie.spec new-requires edges-requires returns)

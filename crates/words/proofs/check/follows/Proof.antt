@@ -12,11 +12,11 @@ use Rattle.words.proofs.check.follows.Statement.{statement}
 use Rattle.words.proofs.check.follows.Tie as tie
 
 -- A record that is not the first stands in order where the one before it stands before it.
-follows-behind : (w : List ℕ) (i : ℕ) (t u : Row) (r : Bool) → (i ≡ 0 → ⊥) → t ≡ row_at w (i - 1) → u ≡ row_at w i
+follows_behind : (w : List ℕ) (i : ℕ) (t u : Row) (r : Bool) → (i ≡ 0 → ⊥) → t ≡ row_at w (i - 1) → u ≡ row_at w i
     → r ≡ before t.trial u.trial → r ≡ follows w i
 unfolding follows
-follows-behind w zero t u r n e f b = absurd (n refl)
-follows-behind w (suc i) t u r n e f b =
+follows_behind w zero t u r n e f b = absurd (n refl)
+follows_behind w (suc i) t u r n e f b =
     let back : suc i - 1 ≡ i = omega arith in
     b ∙ rw (e, f, back)
 
@@ -43,7 +43,7 @@ ascends-requires : tie.Need-ascends-requires
 ascends-requires c κs = search rules
 
 returns-2 : tie.Need-returns-2
-returns-2 c = follows-behind _ _ (as_row c.before.before.before.before.row_at.result) (as_row c.before.before.row-at2.result) _ c.before.before.before.before.before.if1.false c.before.before.before.before.row_at.ensures c.before.before.row-at2.ensures (before_keys _ _ c.before.before.before.key.ensures c.before.key2.ensures c.ascends.ensures)
+returns-2 c = follows_behind _ _ (as_row c.before.before.before.before.row_at.result) (as_row c.before.before.row-at2.result) _ c.before.before.before.before.before.if1.false c.before.before.before.before.row_at.ensures c.before.before.row-at2.ensures (before_keys _ _ c.before.before.before.key.ensures c.before.key2.ensures c.ascends.ensures)
 
 pub follows-spec : {M : Type 1} → statement M
 follows-spec =

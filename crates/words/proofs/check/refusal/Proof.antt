@@ -20,9 +20,9 @@ headed : (w : List ℕ) (t : Bool) → t ≡ header_allowed w → not t ≡ fals
 unfolding extent
 headed w t e n l = record { allowed = sym e ∙ not-false t n; whole = l }
 
-small-capacity : (w : List ℕ) (t : Bool) → t ≡ header_allowed w → not t ≡ false → word w 1 ≤ 512
+small_capacity : (w : List ℕ) (t : Bool) → t ≡ header_allowed w → not t ≡ false → word w 1 ≤ 512
 unfolding header_allowed read_shape
-small-capacity w t e n = (shape_bounds (read_shape w) (both_true _ _ (sym e ∙ not-false t n)).0).capacity_high
+small_capacity w t e n = (shape_bounds (read_shape w) (both_true _ _ (sym e ∙ not-false t n)).0).capacity_high
 
 returns : tie.Need-returns
 unfolding archive_rows guard
@@ -39,10 +39,10 @@ shared-slice-read-if3 : tie.Need-shared-slice-read-if3
 shared-slice-read-if3 c = search rules
 
 mul-if3 : tie.Need-overflow-mul-if3
-mul-if3 c = let small = small-capacity _ _ c.before.before.header_allowed.ensures c.before.if2.false in omega arith
+mul-if3 c = let small = small_capacity _ _ c.before.before.header_allowed.ensures c.before.if2.false in omega arith
 
 add-if3 : tie.Need-overflow-add-if3
-add-if3 c = let small = small-capacity _ _ c.before.before.header_allowed.ensures c.before.if2.false in omega arith
+add-if3 c = let small = small_capacity _ _ c.before.before.header_allowed.ensures c.before.if2.false in omega arith
 
 returns-3 : tie.Need-returns-3
 unfolding archive_rows guard extent

@@ -7,7 +7,7 @@ use Rattle.hypervolume.specs.Cells.{box}
 use Rattle.words.specs.Archive.{reference}
 use Rattle.words.specs.Format.{shape_allowed}
 use Rattle.words.proofs.Passed.{header_facts, reference_small}
-use Rattle.words.proofs.check.RowsAllowed.{Checked, checked-none, checked-more, checked-place, checked-stop, checked-end}
+use Rattle.words.proofs.check.RowsAllowed.{Checked, checked_none, checked_more, checked_place, checked_stop, checked_end}
 use Rattle.words.proofs.check.rows_allowed.Statement.{statement}
 use Rattle.words.proofs.check.rows_allowed.Tie as tie
 
@@ -30,7 +30,7 @@ shared-slice-read-n : tie.Need-shared-slice-read-n invariant-loop decreases-loop
 shared-slice-read-n c = let facts = header_facts _ c.before.before.before.before.before.requires in omega arith
 
 loop-holds : tie.Need-loop-init invariant-loop decreases-loop
-loop-holds c = checked-none _ _ _ c.before.before.before.before.before.requires (c.before.box_of.ensures ∙ ap box (c.before.before.reference-point.ensures ∙ ap reference c.before.before.before.shape_of.ensures)) refl
+loop-holds c = checked_none _ _ _ c.before.before.before.before.before.requires (c.before.box_of.ensures ∙ ap box (c.before.before.reference-point.ensures ∙ ap reference c.before.before.before.shape_of.ensures)) refl
 
 slice-aggregate-mark : tie.Need-slice-aggregate-mark invariant-loop decreases-loop
 slice-aggregate-mark c = sym c.before.before.loop.invariant.sized
@@ -51,10 +51,10 @@ mark-requires : tie.Need-mark-requires invariant-loop decreases-loop
 mark-requires c κs = c.before.before.before.loop.invariant.sized
 
 stands-requires : tie.Need-stands-requires invariant-loop decreases-loop
-stands-requires c κs = checked-place _ _ _ _ _ c.before.before.before.before.before.loop.invariant c.before.before.before.before.loop-test.true c.before.mark.ensures.0
+stands-requires c κs = checked_place _ _ _ _ _ c.before.before.before.before.before.loop.invariant c.before.before.before.before.loop-test.true c.before.mark.ensures.0
 
 returns : tie.Need-returns invariant-loop decreases-loop
-returns c = checked-stop _ _ _ _ _ c.before.before.before.before.before.before.before.loop.invariant c.before.before.before.before.before.before.loop-test.true c.before.stands.ensures c.if1.true
+returns c = checked_stop _ _ _ _ _ c.before.before.before.before.before.before.before.loop.invariant c.before.before.before.before.before.before.loop-test.true c.before.stands.ensures c.if1.true
 
 add-i : tie.Need-overflow-add-i invariant-loop decreases-loop
 add-i c = omega arith
@@ -63,10 +63,10 @@ loop-less : tie.Need-loop-smaller invariant-loop decreases-loop
 loop-less c = omega arith
 
 loop-again : tie.Need-loop-preserved invariant-loop decreases-loop
-loop-again c = checked-more _ _ _ _ _ _ c.before.before.before.before.before.before.before.loop.invariant c.before.before.before.before.before.before.loop-test.true c.before.stands.ensures c.if1.false c.before.before.before.mark.ensures.1 c.before.before.before.mark.auto.0
+loop-again c = checked_more _ _ _ _ _ _ c.before.before.before.before.before.before.before.loop.invariant c.before.before.before.before.before.before.loop-test.true c.before.stands.ensures c.if1.false c.before.before.before.mark.ensures.1 c.before.before.before.mark.auto.0
 
 returns-2 : tie.Need-returns-2 invariant-loop decreases-loop
-returns-2 c = checked-end _ _ _ _ c.before.loop.invariant c.loop-test.false
+returns-2 c = checked_end _ _ _ _ c.before.loop.invariant c.loop-test.false
 
 pub rows-allowed-spec : {M : Type 1} → statement M
 rows-allowed-spec =

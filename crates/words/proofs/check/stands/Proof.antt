@@ -4,7 +4,7 @@ use borrow.Author.Rules.{rules}
 use borrow.Author.Tests.{not-true}
 use Rattle.hypervolume.specs.Cells.{box}
 use Rattle.words.specs.Archive.{reference}
-use Rattle.words.proofs.check.StandsLaws.{first-failed, stands-test, stands-unmet, stands-searched}
+use Rattle.words.proofs.check.StandsLaws.{first_failed, stands_test, stands_unmet, stands_searched}
 use Rattle.words.proofs.check.stands.Statement.{statement}
 use Rattle.words.proofs.check.stands.Tie as tie
 
@@ -26,12 +26,12 @@ both-requires c κs = search rules
 returns : tie.Need-returns
 returns c =
     let d = c.before in
-    first-failed _ _ _ (stands-test _ _ _ _ _ _ _ d.before.before.before.shape_of.ensures d.before.before.before.before.row_at.ensures d.before.before.row_allowed.ensures d.before.follows.ensures d.both.ensures) c.if1.true
+    first_failed _ _ _ (stands_test _ _ _ _ _ _ _ d.before.before.before.shape_of.ensures d.before.before.before.before.row_at.ensures d.before.before.row_allowed.ensures d.before.follows.ensures d.both.ensures) c.if1.true
 
 returns-2 : tie.Need-returns-2
 returns-2 c =
     let d = c.before.before in
-    stands-unmet _ _ _ (stands-test _ _ _ _ _ _ _ d.before.before.before.shape_of.ensures d.before.before.before.before.row_at.ensures d.before.before.row_allowed.ensures d.before.follows.ensures d.both.ensures) c.before.if1.false (d.before.before.before.before.before.before.requires.unmet (not-true _ c.if2.true))
+    stands_unmet _ _ _ (stands_test _ _ _ _ _ _ _ d.before.before.before.shape_of.ensures d.before.before.before.before.row_at.ensures d.before.before.row_allowed.ensures d.before.follows.ensures d.both.ensures) c.before.if1.false (d.before.before.before.before.before.before.requires.unmet (not-true _ c.if2.true))
 
 search-requires : tie.Need-search-requires
 search-requires c κs = search rules
@@ -39,7 +39,7 @@ search-requires c κs = search rules
 returns-3 : tie.Need-returns-3
 returns-3 c =
     let d = c.before.before.before in
-    stands-searched _ _ _ _ _ _ (stands-test _ _ _ _ _ _ _ d.before.before.before.shape_of.ensures d.before.before.before.before.row_at.ensures d.before.before.row_allowed.ensures d.before.follows.ensures d.both.ensures) c.before.before.if1.false d.before.before.before.before.row_at.ensures c.search.ensures
+    stands_searched _ _ _ _ _ _ (stands_test _ _ _ _ _ _ _ d.before.before.before.shape_of.ensures d.before.before.before.before.row_at.ensures d.before.before.row_allowed.ensures d.before.follows.ensures d.both.ensures) c.before.before.if1.false d.before.before.before.before.row_at.ensures c.search.ensures
 
 pub stands-spec : {M : Type 1} → statement M
 stands-spec =

@@ -2,7 +2,7 @@
 -- number of words left.
 use Prim.Native.Nat.{◌-◌}
 use native.Mathlib.Omega.{arith}
-use Rattle.words.proofs.check.ZerosLaws.{Blended, blended-none, blended-more, blended-end}
+use Rattle.words.proofs.check.ZerosLaws.{Blended, blended_none, blended_more, blended_end}
 use Rattle.words.proofs.check.zeros.Statement.{statement}
 use Rattle.words.proofs.check.zeros.Tie as tie
 
@@ -13,7 +13,7 @@ abbrev decreases-loop : tie.decreases-loop
 decreases-loop w from to any₀ i₀ any i = to - i
 
 loop-holds : tie.Need-loop-init invariant-loop decreases-loop
-loop-holds c = blended-none _ _ _ c.requires.0 c.requires.1
+loop-holds c = blended_none _ _ _ c.requires.0 c.requires.1
 
 mul-any : tie.Need-overflow-mul-any invariant-loop decreases-loop
 mul-any c = omega arith
@@ -28,10 +28,10 @@ loop-less : tie.Need-loop-smaller invariant-loop decreases-loop
 loop-less c = omega arith
 
 loop-again : tie.Need-loop-preserved invariant-loop decreases-loop
-loop-again c = blended-more _ _ _ _ _ c.before.before.loop.invariant c.before.loop-test.true
+loop-again c = blended_more _ _ _ _ _ c.before.before.loop.invariant c.before.loop-test.true
 
 returns : tie.Need-returns invariant-loop decreases-loop
-returns c = blended-end _ _ _ _ _ c.before.loop.invariant c.loop-test.false
+returns c = blended_end _ _ _ _ _ c.before.loop.invariant c.loop-test.false
 
 pub zeros-spec : {M : Type 1} → statement M
 zeros-spec =

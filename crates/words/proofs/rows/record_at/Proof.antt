@@ -13,15 +13,15 @@ use Rattle.words.proofs.Places.{held_small}
 use Rattle.words.proofs.rows.record_at.Statement.{statement}
 use Rattle.words.proofs.rows.record_at.Tie as tie
 
-small-axis : (w : List ℕ) (i : ℕ) (r : Row) → archive_rows w 0 ≡ 0 → i < word w 0 → r ≡ row_at w i → (axis : ℕ) → get_or (point r.trial) axis 0 ≤ 1048576
-small-axis w i r p l e axis = subst (λ (s : Row). get_or (point s.trial) axis 0 ≤ 1048576) (sym e) (held_small w i p l axis)
+small_axis : (w : List ℕ) (i : ℕ) (r : Row) → archive_rows w 0 ≡ 0 → i < word w 0 → r ≡ row_at w i → (axis : ℕ) → get_or (point r.trial) axis 0 ≤ 1048576
+small_axis w i r p l e axis = subst (λ (s : Row). get_or (point s.trial) axis 0 ≤ 1048576) (sym e) (held_small w i p l axis)
 
 row-at-requires : tie.Need-row-at-requires
 row-at-requires c κs = omega (arith, passed _ c.before.requires.0)
 
 new-requires : tie.Need-new-requires
 new-requires c κs =
-    let small = small-axis _ _ _ c.before.before.requires.0 c.before.before.requires.1 c.row_at.ensures in
+    let small = small_axis _ _ _ c.before.before.requires.0 c.before.before.requires.1 c.row_at.ensures in
     (omega (arith, small 0), omega (arith, small 1), omega (arith, small 2))
 
 returns : tie.Need-returns

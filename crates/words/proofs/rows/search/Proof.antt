@@ -2,7 +2,7 @@
 -- records left.
 use Prim.Native.Nat.{◌-◌}
 use native.Mathlib.Omega.{arith}
-use Rattle.words.proofs.rows.SearchLaws.{Unfound, search-none, search-more, search-stop, search-end}
+use Rattle.words.proofs.rows.SearchLaws.{Unfound, search_none, search_more, search_stop, search_end}
 use Rattle.words.proofs.rows.search.Statement.{statement}
 use Rattle.words.proofs.rows.search.Tie as tie
 
@@ -13,7 +13,7 @@ abbrev decreases-loop : tie.decreases-loop
 decreases-loop w n number i₀ i = n - i
 
 loop-holds : tie.Need-loop-init invariant-loop decreases-loop
-loop-holds c = search-none _ _ _
+loop-holds c = search_none _ _ _
 
 mul-if1 : tie.Need-overflow-mul-if1 invariant-loop decreases-loop
 mul-if1 c = omega arith
@@ -28,7 +28,7 @@ shared-slice-read-if1 : tie.Need-shared-slice-read-if1 invariant-loop decreases-
 shared-slice-read-if1 c = omega arith
 
 returns : tie.Need-returns invariant-loop decreases-loop
-returns c = search-stop _ _ _ _ c.before.before.before.loop.invariant c.before.before.loop-test.true c.if1.true
+returns c = search_stop _ _ _ _ c.before.before.before.loop.invariant c.before.before.loop-test.true c.if1.true
 
 add-i : tie.Need-overflow-add-i invariant-loop decreases-loop
 add-i c = omega arith
@@ -37,10 +37,10 @@ loop-less : tie.Need-loop-smaller invariant-loop decreases-loop
 loop-less c = omega arith
 
 loop-again : tie.Need-loop-preserved invariant-loop decreases-loop
-loop-again c = search-more _ _ _ _ c.before.before.before.loop.invariant c.before.before.loop-test.true c.if1.false
+loop-again c = search_more _ _ _ _ c.before.before.before.loop.invariant c.before.before.loop-test.true c.if1.false
 
 returns-2 : tie.Need-returns-2 invariant-loop decreases-loop
-returns-2 c = search-end _ _ _ _ c.before.loop.invariant c.loop-test.false
+returns-2 c = search_end _ _ _ _ c.before.loop.invariant c.loop-test.false
 
 pub search-spec : {M : Type 1} → statement M
 search-spec =

@@ -1,6 +1,6 @@
 -- `Offers::with` meets its contract. The invariant: the axes passed have the two least of the offers.
 use Prim.Native.Nat.{◌-◌}
-use Rattle.corners.proofs.limits.LimitsLaws.{Offering, offering-more, offering-end}
+use Rattle.corners.proofs.limits.LimitsLaws.{Offering, offering_more, offering_end}
 use borrow.Author.Rules.{rules}
 use Rattle.corners.proofs.limits.Offers.with.Statement.{statement}
 use Rattle.corners.proofs.limits.Offers.with.Tie as tie
@@ -66,10 +66,10 @@ loop-again : tie.Need-loop-preserved invariant-loop decreases-loop
 loop-again c =
     let offered = c.before.before.before.before.before.before in
     let turn = offered.before in
-    offering-more turn.before.loop.invariant turn.loop-test.true offered.offer.ensures c.before.before.before.before.smaller.ensures c.before.larger.ensures c.smaller2.ensures
+    offering_more turn.before.loop.invariant turn.loop-test.true offered.offer.ensures c.before.before.before.before.smaller.ensures c.before.larger.ensures c.smaller2.ensures
 
 returns : tie.Need-returns invariant-loop decreases-loop
-returns c = offering-end c.before.loop.invariant c.loop-test.false
+returns c = offering_end c.before.loop.invariant c.loop-test.false
 
 pub with-spec : {M : Type 1} → statement M
 with-spec =
