@@ -1,5 +1,7 @@
 // Runs a script of calls on an archive, from standard input: the refusals at their limits, and what is just not refused.
 // Prints how many of its lines came out as they should.
+#![tactic(auto)]
+
 ghost use Rattle.std.specs.Prelude.{◌≡◌, ◌≤◌, length};
 
 use calls::Answer;

@@ -1,5 +1,7 @@
 // The area that points cover, seen along z: it grows by what each point gains over those before it. Those that no other covers stand in
 // a line of entries, as stairs: x rises and y falls.
+#![tactic(auto)]
+
 ghost use Rattle.std.specs.Prelude.{◌≡◌, List, ◌∷◌, ◌++◌, ℕ, ◌+◌, ◌≤◌, ◌<◌, length, take, drop};
 ghost use Rattle.area.specs.Area.{Lined, Falling, Topped, Crossing, Crossed, Growing, Grew};
 

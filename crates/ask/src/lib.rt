@@ -1,4 +1,6 @@
 // The calls that only read an archive: least, joint, gain, share, audit; and the counts of its records behind them.
+#![tactic(auto)]
+
 mod counts;
 mod questions;
 

@@ -1,4 +1,6 @@
 // What the calls on an archive answer. What each call is stands in specs/; the code that does it is in the crates above.
+#![tactic(auto)]
+
 ghost use Rattle.std.specs.Prelude.{◌≡◌, pos};
 
 // An answer of one number: the refusal (0 when done), and the value (0 in a refusal).

@@ -1,4 +1,5 @@
 // Cards, their loading and checking.
+#![tactic(auto)]
 
 // What loading a card answers: the refusal (0 when accepted), the card line refused, and the count of trials loaded.
 #[repr(C)]

@@ -1,5 +1,7 @@
 // Loads and checks cards of every kind, good and refused, and writes reports, by a script on standard input; prints how
 // many of each kind came out as they should.
+#![tactic(auto)]
+
 ghost use Rattle.std.specs.Prelude.{◌≤◌, ◌<◌, length};
 
 use testing::{at, first, one, part, print};

@@ -1,4 +1,6 @@
 // One more point: its gain, and its joint contribution with each of the points, by its upper corners with them.
+#![tactic(auto)]
+
 ghost use Rattle.std.specs.Prelude.{◌≡◌, length};
 ghost use Rattle.slices.specs.Spread.{Sparse};
 ghost use Rattle.hypervolume.specs.Counts.{gain, joints};

@@ -1,4 +1,6 @@
 // Doubles that are whole numbers: read, and layers of cells added up in them.
+#![tactic(auto)]
+
 ghost use Rattle.std.specs.Prelude.{◌≡◌, ◌^◌, ◌≤◌};
 ghost use Rattle.doubles.specs.Doubles.{number_of, with_layer};
 

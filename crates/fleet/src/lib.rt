@@ -1,4 +1,6 @@
 // Archives one behind the other in a slice: rows 1 to 3 of each, where each begins, and whether every audit says yes.
+#![tactic(auto)]
+
 ghost use Rattle.std.specs.Prelude.{◌≡◌, length};
 ghost use Rattle.calls.specs.Calls.{audited};
 ghost use Rattle.fleet.specs.Fleet.{archives, fleet_rows, every};

@@ -1,4 +1,6 @@
 // A fourth score: total and contributions of points on four axes, with the rows that turn the call down.
+#![tactic(auto)]
+
 ghost use Rattle.std.specs.Prelude.{◌≡◌, ◌∷◌, []};
 ghost use Rattle.words.specs.Format.{within, each};
 ghost use Rattle.four.specs.Count4.{count4_rows, count4, counted4};

@@ -3,6 +3,8 @@
 // its equals is at most it on x and y. The points are taken by ascending x; whether one taken before stands earlier and is
 // at most on y is told by the least y over the places before, kept in three levels of eight. Nothing is searched, and hardly
 // a branch depends on how points compare.
+#![tactic(auto)]
+
 ghost use Rattle.std.specs.Prelude.{◌≡◌, ◌+◌, ◌*◌, ◌/◌, ◌%◌, ◌≤◌, ◌<◌, min, leb, ltb, eqb, length, take, get_or};
 ghost use Rattle.slices.specs.Choices.{both, pick};
 ghost use Rattle.hypervolume.specs.Front.{front};

@@ -1,5 +1,7 @@
 // A whole grid of trials in one call: each entered in turn, up to the first that is turned down. Rows 1 to 3 are judged once
 // before, and the front is counted once after.
+#![tactic(auto)]
+
 ghost use Rattle.std.specs.Prelude.{◌≡◌, ◌+◌, ◌*◌, ◌≤◌, length, drop};
 ghost use Rattle.words.specs.Format.{archive_rows};
 ghost use Rattle.words.specs.Places.{as_row};

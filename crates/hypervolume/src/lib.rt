@@ -1,5 +1,7 @@
 // Points by value, indexed by axis, and their operations: upper corner, dominance and edge product. A list of points is a
 // slice of their coordinates, three to a point.
+#![tactic(auto)]
+
 ghost use Rattle.std.specs.Prelude.{◌≡◌, ◌∷◌, [], ℕ, ◌-◌, ◌≤◌, ◌<◌, ◌*◌, max, min, leb, length, get_or, set};
 ghost use Rattle.hypervolume.specs.Cells.{holds, dominates, join, edges};
 ghost use Rattle.hypervolume.specs.Axes.{axes_within};

@@ -1,4 +1,6 @@
 // Start and insert: the calls by which an archive comes to hold trials.
+#![tactic(auto)]
+
 mod inserting;
 mod starting;
 

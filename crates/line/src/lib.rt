@@ -2,6 +2,8 @@
 // list and a flag: 21 bits for a coordinate, 10 for the index, 1 for the flag. The flag is set where an entry before
 // it covers it; an entry without it has the least y so far. One that two others cover is left out: by law 6 it
 // no longer counts.
+#![tactic(auto)]
+
 ghost use Rattle.std.specs.Prelude.{◌≡◌, ℕ, ◌+◌, ◌-◌, ◌≤◌, ◌<◌, leb, ◌∷◌, length, take, drop};
 ghost use Rattle.slices.specs.Choices.{pick};
 ghost use Rattle.slices.specs.Put.{put};

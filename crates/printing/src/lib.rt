@@ -1,5 +1,7 @@
 // Texts of an archive, written line by line, and printed of a card: what the report and the card written back share. They differ
 // in the header's word that line 1 begins with (`first`), and in the bytes of a last column (`wide`, 0 for none).
+#![tactic(auto)]
+
 ghost use Rattle.std.specs.Prelude.{◌≡◌, ◌+◌, ◌≤◌, length};
 ghost use Rattle.slices.specs.Put.{put};
 ghost use Rattle.text.specs.Justified.{justified};

@@ -1,4 +1,6 @@
 // Random archives, against a book of trials whose cells are counted one by one. Prints how many differ.
+#![tactic(auto)]
+
 ghost use Rattle.std.specs.Prelude.{◌≤◌};
 
 use hypervolume::Point;

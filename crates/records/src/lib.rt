@@ -1,5 +1,7 @@
 // Records in an archive's words: found by their place, entered and struck out; one field of all of them; contributions
 // moved by amounts; the front of all of them.
+#![tactic(auto)]
+
 mod amounts;
 mod fronts;
 mod places;

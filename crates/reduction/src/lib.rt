@@ -1,4 +1,6 @@
 // Reduce: drops of the least contributor, on the archive's columns.
+#![tactic(auto)]
+
 mod columns;
 mod dropping;
 mod reducing;

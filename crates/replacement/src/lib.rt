@@ -1,5 +1,7 @@
 // What replacing a held trial by a new point would change: what each of the two points gains over the other trials, and the
 // difference. The archive is not touched.
+#![tactic(auto)]
+
 ghost use Rattle.std.specs.Prelude.{◌≡◌, ◌≤◌, ◌<◌, ℤ};
 ghost use Rattle.hypervolume.specs.Sorted.{Small};
 ghost use Rattle.words.specs.Archive.{point};

@@ -1,6 +1,8 @@
 // The report program: reads a card from standard input and prints its report, or one line for a refused card. Where the card
 // cannot be read it prints nothing. An error of reading or writing is told in one line on standard error; an exit status
 // the language does not have.
+#![tactic(auto)]
+
 use streams::{Reading, read_card, write_text};
 
 fn main() {

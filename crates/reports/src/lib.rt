@@ -1,4 +1,6 @@
 // Reports: the call, and what the report program prints.
+#![tactic(auto)]
+
 ghost use Rattle.std.specs.Prelude.{◌≡◌};
 ghost use Rattle.printing.specs.Printed.{PrintRoom, PrintsRead};
 ghost use Rattle.reports.specs.Report.{report_text, report, reported};

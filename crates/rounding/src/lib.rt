@@ -1,4 +1,6 @@
 // Division rounded to the nearest: a part in millionths of a whole.
+#![tactic(auto)]
+
 ghost use Rattle.std.specs.Prelude.{◌≡◌, ◌*◌, ◌≤◌, ◌<◌};
 ghost use Rattle.rounding.specs.Nearest.{nearest, rounded};
 

@@ -1,5 +1,7 @@
 // The program six_reports: reads a card from standard input and prints its six reports, in the orders 0 to 5 of the axes, one behind
 // the other, or one line for a refused card. Errors of reading and writing as in the report program.
+#![tactic(auto)]
+
 use streams::{Reading, read_card, write_text};
 
 fn main() {

@@ -1,4 +1,6 @@
 // The six reports of an archive, one in each order of the axes, and what the program six_reports prints.
+#![tactic(auto)]
+
 ghost use Rattle.std.specs.Prelude.{◌≡◌, ◌+◌, ◌*◌, ◌≤◌, ◌<◌, length};
 ghost use Rattle.slices.specs.Put.{put};
 ghost use Rattle.words.specs.Layout.{word, extent, read};

@@ -1,4 +1,6 @@
 // Two tests as one; and words of a slice cleared, copied and moved: each writes one part of it, and nothing else.
+#![tactic(auto)]
+
 ghost use Rattle.std.specs.Prelude.{◌≡◌, ◌+◌, ◌≤◌, length, take, drop, replicate};
 ghost use Rattle.slices.specs.Choices.{both};
 ghost use Rattle.slices.specs.Put.{put};

@@ -1,4 +1,6 @@
 // Standard input and standard output, for the programs that read a card and print a text of its archive.
+#![tactic(auto)]
+
 ghost use Rattle.std.specs.Prelude.{length};
 ghost use Rattle.streams.specs.Read.{Fits};
 

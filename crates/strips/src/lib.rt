@@ -1,5 +1,7 @@
 // One pass along the line, for the next point p. Between neighbouring x's the columns of cells are alike, so each such
 // strip is settled by one product.
+#![tactic(auto)]
+
 ghost use Rattle.std.specs.Prelude.{[], ◌≡◌, leb, eqb};
 ghost use Rattle.slices.specs.Choices.{both};
 ghost use Rattle.line.specs.Line.{y_of, flag_of, Flagged};

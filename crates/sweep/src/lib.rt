@@ -1,5 +1,7 @@
 // The one counting algorithm of the archive: a sweep over the points in ascending z. It counts the total and every
 // contribution; over the corners with one more point (crate `corners`) it counts what that point would change.
+#![tactic(auto)]
+
 ghost use Rattle.std.specs.Prelude.{◌≡◌, ◌++◌, length, drop};
 ghost use Rattle.hypervolume.specs.Counts.{total, contributions};
 ghost use Rattle.sweep.specs.Points.{Ready};

@@ -1,6 +1,8 @@
 // The sweep along a fourth axis. The points are taken in ascending w. No earlier point has a larger w, so in each layer that the
 // next one reaches it meets the same picture, seen along w: on three axes its gain over the points before it, and its joint
 // contribution with each of them, times the height up to the reference.
+#![tactic(auto)]
+
 ghost use Rattle.std.specs.Prelude.{◌≡◌, true, ◌∷◌, ◌++◌, [], ◌-◌, ◌/◌, ◌<◌, length, take, drop, get_or};
 ghost use Rattle.slices.specs.Put.{put};
 ghost use Rattle.slices.specs.Spread.{spread};

@@ -1,5 +1,7 @@
 // The gate's test of the sweep: edge lengths at the limits of their numbers, against a comparison of the two; small lists of
 // points, with ties, equal and dominated points and points beyond the reference, against a direct count of the cells.
+#![tactic(auto)]
+
 ghost use Rattle.std.specs.Prelude.{◌≡◌, ◌≤◌, ◌<◌, length};
 ghost use Rattle.hypervolume.specs.Sorted.{Small, Sorted};
 

@@ -1,5 +1,7 @@
 // What the test programs share: numbers that look random, a direct count of cells, words read and written safely
 // anywhere, a script of calls, and printing. No other crate uses it.
+#![tactic(auto)]
+
 ghost use Rattle.std.specs.Prelude.{◌≡◌, ◌≤◌, ◌<◌, length};
 
 use hypervolume::Point;

@@ -1,4 +1,6 @@
 // Fields, lines and columns of decimal numbers in bytes: what a card is read by, and a report written by.
+#![tactic(auto)]
+
 ghost use Rattle.std.specs.Prelude.{◌≡◌, ◌+◌, ◌%◌, ◌≤◌, eqb, length};
 ghost use Rattle.std.proofs.Math.Seq.{slice};
 ghost use Rattle.slices.specs.Choices.{pick};

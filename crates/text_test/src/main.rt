@@ -1,4 +1,6 @@
 // Reads fields and lines of the form and damaged ones, writes columns, and prints how many came out as they should.
+#![tactic(auto)]
+
 ghost use Rattle.std.specs.Prelude.{◌+◌, ◌≤◌, length};
 
 use testing::{at, one, print};

@@ -1,5 +1,7 @@
 // The C boundary: one exported function per call, each with the contract of the call itself. `include/trial_archive.h`
 // documents them for C.
+#![tactic(auto)]
+
 ghost use Rattle.std.specs.Prelude.{◌∷◌, [], ◌≡◌};
 ghost use Rattle.axes.specs.Rearranging.{rearrange};
 ghost use Rattle.calls.specs.Lent.{start, insert, remove, least, reduce, joint, gain_answer, share, audit, trial_of, shape_of, MeetsOutcome};

@@ -1,6 +1,8 @@
 // Volume in doubles: the figure that published codes compute, of a reference corner and points that are given as doubles. The
 // points are taken in ascending z; the area that they cover, seen along z, grows by what each of them gains, and each layer's
 // area times its height is added up in double precision.
+#![tactic(auto)]
+
 ghost use Rattle.std.specs.Prelude.{◌≡◌, true, map, [], ◌+◌, ◌*◌, ◌≤◌, ◌<◌, ◌^◌, length, get_or};
 ghost use Rattle.slices.specs.Choices.{pick};
 ghost use Rattle.hypervolume.specs.Sorted.{Small};

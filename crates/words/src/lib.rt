@@ -1,4 +1,6 @@
 // The archive's words: records read and written, and rows 1 to 3 of the table of refusals.
+#![tactic(auto)]
+
 mod check;
 mod header;
 mod rows;

@@ -1,5 +1,7 @@
 // The program write_card: reads a card from standard input and prints it in archive order, or one line for a refused card.
 // Errors of reading and writing as in the report program.
+#![tactic(auto)]
+
 use streams::{Reading, read_card, write_text};
 
 fn main() {

@@ -1,4 +1,6 @@
 // Cards written back: the call, and what the program write_card prints.
+#![tactic(auto)]
+
 ghost use Rattle.std.specs.Prelude.{◌≡◌};
 ghost use Rattle.printing.specs.Printed.{PrintRoom, PrintsRead};
 ghost use Rattle.writing.specs.Written.{card_text, write, written};
