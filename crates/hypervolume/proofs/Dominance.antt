@@ -95,7 +95,7 @@ cover_joins u (t ∷ trials) c =
 unfoldable pub Among : List (List ℕ) → List ℕ → Type 0
 Among trials t = (c : List ℕ) → holds (dominates t c) ≤ cover trials c
 
-pub among_member : {trials : List (List ℕ)} {t : List ℕ} → Memᴰ t trials → Among trials t
+pub among_member : {t : List ℕ} {trials : List (List ℕ)} → Memᴰ t trials → Among trials t
 unfolding Among cover
 among_member (Memᴰ.head {x = x} e) c = rw e (omega arith)
 among_member (Memᴰ.tail {xs = xs} m) c =
