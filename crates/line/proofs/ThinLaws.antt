@@ -15,7 +15,6 @@ use lib.Seq.{append_snoc, drop-cons, drop-append-le, get_or-take, get_or-drop, d
 use Rattle.slices.specs.Choices.{both}
 use Rattle.hypervolume.specs.Cells.{holds, dominates}
 use Rattle.slices.proofs.Choices.{both_comm}
-use Rattle.hypervolume.proofs.Dominance.{rest}
 use Rattle.line.specs.Line.{tally, flagged, spot, x_of, y_of, index_of, flag_of, over, over_by, low, Rising, FlagRight, Flagged, AlikeAt}
 use Rattle.line.specs.Entries.{Below, ThinnedLine, ThinningLine, Walked}
 use Rattle.line.proofs.Tally.{low_append, low_more, over_append, over_cons, over_more, tally_middle}
