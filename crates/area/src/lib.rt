@@ -22,7 +22,7 @@ fn top(line: &[u64], ry: u64) -> u64
 }
 
 // The area that a point gains, and where the entries end that it covers.
-#[derive(Drop)]
+#[derive(Clone, Copy)]
 struct Gained {
     gain: u64,
     end: usize,
@@ -69,7 +69,7 @@ fn replace(line: &mut [u64], m: usize, at: usize, end: usize, entry: u64) -> usi
 }
 
 // How many entries the line has then, and what the point gained.
-#[derive(Drop)]
+#[derive(Clone, Copy)]
 pub struct Grown {
     pub held: usize,
     pub gain: u64,

@@ -5,7 +5,7 @@ ghost use Rattle.std.specs.Prelude.{◌≡◌, pos};
 
 // An answer of one number: the refusal (0 when done), and the value (0 in a refusal).
 #[repr(C)]
-#[derive(Drop)]
+#[derive(Clone, Copy)]
 pub struct Answer {
     pub refusal: u64,
     pub value: u64,
@@ -27,7 +27,7 @@ impl Answer {
 
 // The answer of least.
 #[repr(C)]
-#[derive(Drop)]
+#[derive(Clone, Copy)]
 pub struct LeastAnswer {
     pub refusal: u64,
     pub number: u64,
@@ -49,7 +49,7 @@ impl LeastAnswer {
 // The answer of a grid of trials: the refusal (0 when done), how many went in, and the refusal number that stopped it, or 0.
 // Zeros in a refusal.
 #[repr(C)]
-#[derive(Drop)]
+#[derive(Clone, Copy)]
 pub struct GridAnswer {
     pub refusal: u64,
     pub inserted: u64,
@@ -70,7 +70,7 @@ impl GridAnswer {
 
 // The answer of what a replacement would change: the refusal (0 when done), and the difference (0 in a refusal).
 #[repr(C)]
-#[derive(Drop)]
+#[derive(Clone, Copy)]
 pub struct Change {
     pub refusal: u64,
     pub difference: i64,

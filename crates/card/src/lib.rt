@@ -3,7 +3,7 @@
 
 // What loading a card answers: the refusal (0 when accepted), the card line refused, and the count of trials loaded.
 #[repr(C)]
-#[derive(Drop)]
+#[derive(Clone, Copy)]
 pub struct Loaded {
     pub refusal: u64,
     pub line: u64,

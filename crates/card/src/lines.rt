@@ -5,7 +5,7 @@ ghost use Rattle.card.specs.Card.{due, due_of};
 use text::Line;
 
 // What is due in a reading.
-#[derive(Drop)]
+#[derive(Clone, Copy)]
 pub enum Due {
     Next(Line),
     // Behind the last line.
@@ -13,7 +13,7 @@ pub enum Due {
 }
 
 // A reading in progress: the lent card together with the line next due, counted from 1.
-#[derive(Drop)]
+#[derive(Clone, Copy)]
 pub struct Reader<'a> {
     pub card: &'a [u8],
     pub line: usize,

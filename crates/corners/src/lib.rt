@@ -11,7 +11,7 @@ use hypervolume::Point;
 mod limits;
 
 // What one more point gains, and how many of the points have a joint contribution with it that need not be 0.
-#[derive(Drop)]
+#[derive(Clone, Copy)]
 pub struct Updated {
     pub gain: u64,
     pub moved: usize,

@@ -6,7 +6,7 @@ ghost use Rattle.corners.specs.Limits.{offer, Offered, Limits, Collecting, Colle
 use hypervolume::{Point, larger, point_at, put_point, smaller};
 
 // The two least offers on each axis.
-#[derive(Drop)]
+#[derive(Clone, Copy)]
 pub struct Offers {
     pub least: [u32; 3],
     pub second: [u32; 3],

@@ -4,7 +4,7 @@ ghost use Rattle.std.specs.Prelude.{◌≡◌};
 // The refusal (0 when done), the figures of the totals, the median's share in millionths, and 1 where every audit says yes. Zeros in
 // a refusal.
 #[repr(C)]
-#[derive(Drop)]
+#[derive(Clone, Copy)]
 pub struct FiguresAnswer {
     pub refusal: u64,
     pub sum: u64,

@@ -91,7 +91,7 @@ fn count(
 }
 
 // Of the points so far the one with the least x + y, and the place where its equals begin. At first beyond all.
-#[derive(Drop)]
+#[derive(Clone, Copy)]
 struct Best {
     x: u32,
     y: u32,

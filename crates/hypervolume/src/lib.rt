@@ -9,7 +9,7 @@ ghost use Rattle.hypervolume.specs.Axes.{axes_within};
 pub mod number;
 
 // A point: a coordinate for each axis, x, y, z.
-#[derive(Drop)]
+#[derive(Clone, Copy)]
 pub struct Point {
     pub at: [u32; 3],
 }

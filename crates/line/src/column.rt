@@ -3,7 +3,7 @@ ghost use Rattle.std.specs.Prelude.{◌≡◌};
 ghost use Rattle.line.specs.Column.{column_with};
 
 // The least y of the points passed, which of them has it, and the second least y.
-#[derive(Drop)]
+#[derive(Clone, Copy)]
 pub struct Column {
     pub least: u64,
     pub owner: usize,

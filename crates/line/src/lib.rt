@@ -70,7 +70,7 @@ fn reaches(entry: u64, x: u64) -> usize
 }
 
 // What is left of a search: the place lies among `size` entries from `low` on, or right behind them.
-#[derive(Drop)]
+#[derive(Clone, Copy)]
 struct Range {
     low: usize,
     size: usize,
@@ -112,7 +112,7 @@ pub fn rank(line: &[u64], x: u64) -> usize
 }
 
 // What is free between the entries that stay and those that the walk did not come to.
-#[derive(Drop)]
+#[derive(Clone, Copy)]
 struct Gap {
     to: usize,
     from: usize,

@@ -7,7 +7,7 @@ ghost use Rattle.streams.specs.Read.{Fits};
 use libc::{EINTR, STDIN_FILENO, STDOUT_FILENO};
 
 // What reading a card answers: how many bytes there are of it, or that a read failed.
-#[derive(Drop)]
+#[derive(Clone, Copy)]
 pub enum Reading {
     Bytes(usize),
     Failed,

@@ -10,7 +10,7 @@ ghost use Rattle.text.specs.Lines.{four, line_from, numbers_of};
 ghost use Rattle.text.specs.Justified.{justified, ColumnRoom};
 
 // What the reading of a field answers.
-#[derive(Drop)]
+#[derive(Clone, Copy)]
 pub enum Field {
     Value(u64),
     // Not of the form.
@@ -18,7 +18,7 @@ pub enum Field {
 }
 
 // What the reading of a line answers: the values of its four fields, in their order.
-#[derive(Drop)]
+#[derive(Clone, Copy)]
 pub enum Line {
     Values {
         first: u64,

@@ -19,7 +19,7 @@ use slices::both;
 
 // The reference corner: three doubles.
 #[repr(C)]
-#[derive(Drop)]
+#[derive(Clone, Copy)]
 pub struct Corner {
     pub x: f64,
     pub y: f64,
@@ -27,7 +27,7 @@ pub struct Corner {
 }
 
 // A volume in double precision, or a refusal.
-#[derive(Drop)]
+#[derive(Clone, Copy)]
 pub enum Volume {
     Cells(f64),
     Refused(u64),
@@ -35,7 +35,7 @@ pub enum Volume {
 
 // The answer for C, which has no such enum: the refusal (0 when done), and the volume (+0 in a refusal).
 #[repr(C)]
-#[derive(Drop)]
+#[derive(Clone, Copy)]
 pub struct VolumeAnswer {
     pub refusal: u64,
     pub volume: f64,

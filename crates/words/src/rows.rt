@@ -8,7 +8,7 @@ ghost use Rattle.words.specs.Places.{as_row, as_record, as_shape, row_at, Found}
 use hypervolume::Point;
 
 // Five words as a record, before rows 2 and 3 have judged them; also a number and a point as a caller gives them.
-#[derive(Drop)]
+#[derive(Clone, Copy)]
 pub struct Row {
     pub number: u64,
     pub x: u64,
@@ -27,7 +27,7 @@ impl Row {
 }
 
 // A record that rows 2 and 3 have let pass.
-#[derive(Drop)]
+#[derive(Clone, Copy)]
 pub struct Record {
     pub number: u64,
     pub point: Point,
@@ -45,7 +45,7 @@ impl Record {
 }
 
 // What a start fixes: the capacity and the reference point.
-#[derive(Drop)]
+#[derive(Clone, Copy)]
 pub struct Shape {
     pub capacity: u64,
     pub rx: u64,
