@@ -58,6 +58,7 @@ module _ (points : List (List ℕ)) (h : InOrder points) where
       → (i : ℕ) (keys : List ℕ) → Sieved points i keys → (j : ℕ) → j < i → f (key_at points j) ≡ true → some f keys ≡ true
   unfolding some either
   meets f down zero [] nothing j l e = absurd (let z : ⊥ = omega arith in z)
+  meets f down zero (k ∷ keys) s j l e = elim s [ ]
   meets f down (suc i) keys (kept {keys = before} s) j l e =
       some_append f before (key_at points i ∷ [])
       ∙ by_order i j
@@ -84,6 +85,7 @@ module _ (points : List (List ℕ)) (h : InOrder points) where
   comes_from : (f : ℕ → Bool) (Q : Type 0) (i : ℕ) (keys : List ℕ) → Sieved points i keys → ((j : ℕ) → j < i → f (key_at points j) ≡ true → Q) → some f keys ≡ true → Q
   unfolding some either
   comes_from f Q zero [] nothing take e = absurd (true≢false (cc))
+  comes_from f Q zero (k ∷ keys) s taken e = elim s [ ]
   comes_from f Q (suc i) keys (kept {keys = before} s) take e =
       go (some f before) (f (key_at points i)) refl refl (sym (some_append f before (key_at points i ∷ [])) ∙ e)
       (comes_from f Q i before s (λ j l p. take j (omega arith) p))
@@ -120,11 +122,12 @@ module _ (points : List (List ℕ)) (h : InOrder points) where
     sum_kept : (i : ℕ) (some-keys : List ℕ) → Sieved points i some-keys → i ≤ length points → ((f : ℕ → Bool) → some f some-keys ≡ true → some f keys ≡ true)
         → unbeaten points (take i points) ≡ sum_of free some-keys
     sum_kept zero [] nothing l into = unfold unbeaten sum_of in refl
+    sum_kept zero (k ∷ part) s l into = elim s [ ]
     sum_kept (suc i) part (kept {keys = before} s) l into =
-        omega (arith, next_point i l, sum_kept i before s (omega arith) (λ f e. into f (some_append f before (key_at points i ∷ []) ∙ first f e)), sum_append free before (key_at points i ∷ []), one (key_at points i))
+        omega (arith, next_point i l, sum_kept i before s (omega arith) (λ f e. into f (some_append f before (key_at points i ∷ []) ∙ first (some f before) (some f (key_at points i ∷ [])) e)), sum_append free before (key_at points i ∷ []), one (key_at points i))
       where
-        first : (f : ℕ → Bool) → some f before ≡ true → either (some f before) (some f (key_at points i ∷ [])) ≡ true
-        first f e = unfold either in rw e
+        first : (s t : Bool) → s ≡ true → either s t ≡ true
+        first s t e = unfold either in rw e
 
         one : (k : ℕ) → sum_of free (k ∷ []) ≡ free k
         one k = unfold sum_of in (let e : free k + 0 ≡ free k = omega arith in e)

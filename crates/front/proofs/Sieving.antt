@@ -233,6 +233,7 @@ module _ (points : List (List ℕ)) (o : InOrder points) where
         behind = λ j n a b c. absurd (let z : ⊥ = omega arith in z);
         placed = λ j k a b. absurd (let z : ⊥ = omega arith in z);
       }
+  ascends zero (k ∷ keys) l s = elim s [ ]
   ascends (suc i) keys l (kept {keys = before} s) = one_more i before l (ascends i before (omega arith) s)
   ascends (suc i) keys l (left s e) = wider (ascends i keys (omega arith) s)
     where
