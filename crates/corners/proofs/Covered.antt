@@ -1,12 +1,12 @@
 -- A point that two of the points cover: it gains nothing, and has no joint contribution with any.
-use Prim.Native.Nat.{ℕ, zero, suc, ◌+◌, ◌≤◌, ◌<◌}
-use mathlib.Core.Path.{◌≡◌, refl, ap, subst, ◌∙◌}
+use Prim.Native.Nat.{ℕ, suc, ◌+◌, ◌≤◌, ◌<◌}
+use mathlib.Core.Path.{◌≡◌, refl, subst}
 use mathlib.Core.Bool.{Bool, true, false}
 use mathlib.Core.List.{List, ◌∷◌, map, []}
 use native.Mathlib.Nat.{le_trans}
 use native.Mathlib.Omega.{arith}
 use lib.Dec.{leb, eqb}
-use lib.ListN.{length, take, get_or, set, replicate}
+use lib.ListN.{length, get_or, set, replicate}
 use borrow.Author.Tests.{leb-true, le-leb, ne_eqb}
 use Rattle.slices.specs.Choices.{both}
 use Rattle.slices.specs.Spread.{spread, Sparse}

@@ -1,8 +1,6 @@
 -- `update` meets its contract: the sweep of the corners within the limits counts the joint contributions, the others have
 -- none, and what it does not cover of the edge product is the gain. Where two points cover u, it changes no count.
-use Prim.Native.Nat.{ℕ}
 use mathlib.Core.Path.{sym}
-use mathlib.Core.List.{List}
 use Rattle.corners.proofs.UpdateLaws.{updating_collecting, Prepared, some_many, prepared_ready, prepared_enough, prepared_gain, prepared_joints}
 use Rattle.corners.proofs.Covered.{covered_gain, covered_joints}
 use borrow.Author.Rules.{rules}
@@ -11,7 +9,7 @@ use Rattle.corners.proofs.update.Goals as goal
 pub returns-then-covered : goal.returns-then-covered
 returns-then-covered c =
     let own = c.covered.ensures c.if-covered.true in
-    (covered_gain c.requires.ready.sorted (search rules) (search rules) c.limits-limit.ensures own.0 own.1 _, covered_joints c.requires.ready.sorted (search rules) (search rules) c.limits-limit.ensures own.0 own.1 _ _ _)
+    record { gain = covered_gain c.requires.ready.sorted (search rules) (search rules) c.limits-limit.ensures own.0 own.1 _; joints = covered_joints c.requires.ready.sorted (search rules) (search rules) c.limits-limit.ensures own.0 own.1 _ _ _ }
 
 pub collect-moved-requires : goal.collect-moved-requires
 collect-moved-requires c = updating_collecting c.requires c.limits-limit.ensures

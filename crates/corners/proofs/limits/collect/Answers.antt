@@ -1,9 +1,7 @@
 -- `collect` meets its contract. The invariant: of the first i points, the corners within the limit.
-use Prim.Native.Nat.{◌-◌}
-use lib.ListN.{length}
 use borrow.Author.Count.{falls}
 use borrow.Author.Rules.{rules}
-use Rattle.corners.proofs.limits.CollectLaws.{Gathering, gathering_none, gathering_skip, gathering_more, gathering_stop, gathering_end}
+use Rattle.corners.proofs.limits.CollectLaws.{gathering_none, gathering_skip, gathering_more, gathering_stop, gathering_end}
 use Rattle.corners.proofs.limits.collect.Goals as goal
 
 pub loop-i-init : goal.loop-i-init

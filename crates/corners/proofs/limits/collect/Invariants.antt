@@ -1,9 +1,7 @@
 -- `collect` meets its contract. The invariant: of the first i points, the corners within the limit.
 use Prim.Native.Nat.{◌-◌}
 use lib.ListN.{length}
-use borrow.Author.Count.{falls}
-use borrow.Author.Rules.{rules}
-use Rattle.corners.proofs.limits.CollectLaws.{Gathering, gathering_none, gathering_skip, gathering_more, gathering_stop, gathering_end}
+use Rattle.corners.proofs.limits.CollectLaws.{Gathering}
 use Rattle.corners.proofs.limits.collect.Given as goal
 
 abbrev pub invariant-loop-i : goal.invariant-loop-i

@@ -1,7 +1,6 @@
 -- `covered` meets its contract.
 use mathlib.Core.Path.{sym}
 use mathlib.Core.Bool.{true≢false}
-use borrow.Author.Rules.{rules}
 use Rattle.corners.proofs.limits.covered.Goals as goal
 
 pub returns : goal.returns

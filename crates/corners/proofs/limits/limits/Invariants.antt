@@ -1,10 +1,7 @@
 -- `limits` meets its contract. The invariant: on each axis the two least offers of the first i points, and their limits.
-use Prim.Native.Nat.{ℕ, ◌+◌, ◌-◌, ◌≤◌, ◌<◌}
-use mathlib.Core.Path.{◌≡◌}
-use native.Mathlib.Omega.{arith}
+use Prim.Native.Nat.{◌-◌}
 use lib.ListN.{length}
-use borrow.Author.Rules.{rules}
-use Rattle.corners.proofs.limits.LimitsLaws.{Bounding, bounding_none, bounding_more, bounding_past, bounding_end}
+use Rattle.corners.proofs.limits.LimitsLaws.{Bounding}
 use Rattle.corners.proofs.limits.limits.Given as goal
 
 abbrev pub invariant-loop-i : goal.invariant-loop-i

@@ -1,7 +1,6 @@
 -- `offer` meets its contract.
 use Rattle.slices.specs.Choices.{pick}
 use Rattle.corners.specs.Limits.{offer}
-use borrow.Author.Rules.{rules}
 use Rattle.corners.proofs.limits.offer.Goals as goal
 
 pub returns-then-dominates : goal.returns-then-dominates

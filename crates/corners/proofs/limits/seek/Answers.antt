@@ -1,7 +1,6 @@
 -- `seek` meets its contract. The invariant: it has come from `from` and is not past the end.
-use Prim.Native.Nat.{◌-◌, ◌≤◌}
+use Prim.Native.Nat.{◌≤◌}
 use native.Mathlib.Omega.{arith}
-use lib.ListN.{length}
 use borrow.Author.Rules.{rules}
 use Rattle.corners.proofs.limits.LimitsLaws.{axes_few}
 use Rattle.corners.proofs.limits.seek.Goals as goal

@@ -1,9 +1,6 @@
 -- `seek` meets its contract. The invariant: it has come from `from` and is not past the end.
 use Prim.Native.Nat.{◌-◌, ◌≤◌}
-use native.Mathlib.Omega.{arith}
 use lib.ListN.{length}
-use borrow.Author.Rules.{rules}
-use Rattle.corners.proofs.limits.LimitsLaws.{axes_few}
 use Rattle.corners.proofs.limits.seek.Given as goal
 
 abbrev pub invariant-loop-i : goal.invariant-loop-i

@@ -1,7 +1,5 @@
 -- `Offers::with` meets its contract. The invariant: the axes passed have the two least of the offers.
-use Prim.Native.Nat.{◌-◌}
-use Rattle.corners.proofs.limits.LimitsLaws.{Offering, offering_more, offering_end}
-use borrow.Author.Rules.{rules}
+use Rattle.corners.proofs.limits.LimitsLaws.{offering_more, offering_end}
 use Rattle.corners.proofs.limits.Offers.with.Goals as goal
 
 pub loop-axis-preserved : goal.loop-axis-preserved

@@ -1,7 +1,6 @@
 -- `Offers::with` meets its contract. The invariant: the axes passed have the two least of the offers.
 use Prim.Native.Nat.{◌-◌}
-use Rattle.corners.proofs.limits.LimitsLaws.{Offering, offering_more, offering_end}
-use borrow.Author.Rules.{rules}
+use Rattle.corners.proofs.limits.LimitsLaws.{Offering}
 use Rattle.corners.proofs.limits.Offers.with.Given as goal
 
 abbrev pub invariant-loop-axis : goal.invariant-loop-axis
