@@ -1,23 +1,22 @@
 -- What a replacement would change, by the counts over the other trials.
-use Prim.Native.Nat.{ℕ, zero, suc, ◌+◌, ◌-◌, ◌≤◌, ◌<◌}
+use Prim.Native.Nat.{ℕ, zero, suc, ◌+◌, ◌-◌, ◌≤◌}
 use mathlib.Core.Path.{◌≡◌, refl, sym, ap, ap₂, ◌∙◌}
 use mathlib.Core.Bool.{Bool, true, false, true≢false, cond}
 use mathlib.Core.List.{List, ◌∷◌, []}
 use native.Mathlib.Omega.{arith}
 use lib.Dec.{ltb, eqb}
-use lib.IntN.{ℤ, pos, negsuc, neg_ℤ, sub_ℕ, ◌+ℤ◌, ◌-ℤ◌, nat_abs, +ℤ_assoc, +ℤ_comm, +ℤ_invr, +ℤ-neg_ℤ_cancel, neg_ℤ-+ℤ, pos-+ℤ-pos}
+use lib.IntN.{ℤ, pos, negsuc, neg_ℤ, ◌+ℤ◌, ◌-ℤ◌, nat_abs, +ℤ_assoc, +ℤ_comm, +ℤ_invr, +ℤ-neg_ℤ_cancel, neg_ℤ-+ℤ, pos-+ℤ-pos}
 use borrow.Author.Tests.{not-true}
 use Rattle.slices.specs.Choices.{pick, either}
 use Rattle.slices.proofs.Choices.{both_true}
-use Rattle.hypervolume.specs.Cells.{holds, dominates, box}
 use Rattle.hypervolume.specs.Counts.{cover, total, gain}
 use Rattle.hypervolume.proofs.Tests.{Equated, same, differs, equated}
 use Rattle.hypervolume.proofs.Counting.{SameCover, total_le_box}
-use Rattle.words.specs.Archive.{Trial, Row, Archive, point, reference, trials, points}
+use Rattle.words.specs.Archive.{Trial, Row, Archive, point, trials, points}
 use Rattle.words.specs.Layout.{read}
-use Rattle.words.specs.Format.{held, distinct, archive_rows}
+use Rattle.words.specs.Format.{held, distinct}
 use Rattle.words.proofs.Passed.{passes_again}
-use Rattle.calls.specs.Calls.{held_trials, held_points, reference_of, box_of, insert_gain, row_of, others, without, removal_loss, inserted, removed}
+use Rattle.calls.specs.Calls.{held_points, reference_of, box_of, insert_gain, row_of, others, without, removal_loss, inserted, removed}
 use Rattle.calls.specs.Lent.{insert, remove}
 use Rattle.calls.specs.Replacement.{replaced, difference, change_of, counted_total, Replaceable, ReplacementLaws}
 use Rattle.calls.proofs.Members.{others_here, others_later, others_none, split}
