@@ -4,10 +4,10 @@ use mathlib.Core.Path.{◌≡◌, refl, sym, ap, ap₂, ◌∙◌}
 use mathlib.Core.List.{List, ◌++◌, []}
 use native.Mathlib.Numerals.{add-one}
 use native.Mathlib.Omega.{arith}
-use lib.ListN.{length, take, drop, set, get_or, length-drop, length-set, drop_of_length-le}
+use lib.ListN.{length, take, drop, set, get_or, length-drop, length-set}
 use lib.Seq.{paste, paste-zero, paste-suc, take-paste, take_all, get_or-take, get_or-drop, length-take-le}
 use Rattle.words.specs.Archive.{Row, point, trials, points}
-use Rattle.words.specs.Layout.{word, read_rows}
+use Rattle.words.specs.Layout.{word}
 use Rattle.words.specs.Format.{archive_rows}
 use Rattle.words.specs.Places.{as_record, row_at, rows_before}
 use Rattle.words.specs.declared.rows.Record.{Record}
