@@ -1,0 +1,9 @@
+-- `gain` meets its contract: rows 1 to 3 refuse, or the inner function answers.
+use mathlib.Core.Path.{◌∙◌}
+use Rattle.ask.proofs.questions.Asking.{answer_turned}
+use Rattle.calls.specs.Lent.{gain_answer}
+use Rattle.ask.proofs.questions.gain.Goals as goal
+
+pub returns-then-refused-ne0 : goal.returns-then-refused-ne0
+unfolding gain_answer
+returns-then-refused-ne0 c = c.refused.ensures ∙ answer_turned _ _ _ _ c.refusal-refused.ensures c.if-refused-ne0.true
