@@ -7,7 +7,6 @@ ghost use Rattle.hypervolume.specs.Sorted.{Small, Sorted};
 
 use hypervolume::Point;
 use hypervolume::number::less;
-use libc::STDOUT_FILENO;
 use testing::noise;
 
 // Numbers at the limits of 0, of a coordinate, of 31 and of 32 bits, each beside its neighbours.
@@ -163,8 +162,8 @@ fn sets_differ() -> u64 {
     differ
 }
 
-fn main() {
-    testing::print(b"edge: 144 pairs, ", edges_differ());
-    testing::print(b" differ\nsweep: 400 sets, ", sets_differ());
-    io::write_all(STDOUT_FILENO, b" differ\n");
+fn main(rt: HostRuntime) {
+    testing::print(&rt, "edge: 144 pairs, ", edges_differ());
+    testing::print(&rt, " differ\nsweep: 400 sets, ", sets_differ());
+    let _ = println!(rt; " differ");
 }

@@ -124,13 +124,13 @@ fn columns() -> u64 {
         &[0, 9, 10, 99999999, 0, 18446744073709551615, 12, 7],
     );
     let due = b".       0       9      1099999999                   018446744073709551615 127.";
-    one(check::same(&out, due))
+    one(out == *due)
 }
 
-fn main() {
-    print(b"fields ", good_fields());
-    print(b" damaged ", damaged_fields());
-    print(b" lines ", lines());
-    print(b" columns ", columns());
-    io::write_all(1, b"\n");
+fn main(rt: HostRuntime) {
+    print(&rt, "fields ", good_fields());
+    print(&rt, " damaged ", damaged_fields());
+    print(&rt, " lines ", lines());
+    print(&rt, " columns ", columns());
+    let _ = println!(rt);
 }

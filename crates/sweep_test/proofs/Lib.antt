@@ -1,2 +1,0 @@
--- Laws of the test's lists.
-pub mod Lists
