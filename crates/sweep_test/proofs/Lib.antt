@@ -1,0 +1,2 @@
+-- Laws of the test's lists.
+pub mod Lists
