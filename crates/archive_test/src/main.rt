@@ -143,11 +143,11 @@ fn lines(text: &[u8]) -> u64 {
     all
 }
 
-fn main() {
-    let mut text = io::large_buffer();
+fn main(rt: HostRuntime) {
+    let mut text = [0u8; 65536];
     let mut w = [7u64; 2568];
-    let n = io::read_full(0, &mut text);
-    testing::print(b"archive: ", lines(&text[..n]));
-    testing::print(b" lines, ", script(&text[..n], &mut w));
-    io::write_all(1, b" as they should be\n");
+    let n = testing::read_full(&mut rt.stdin(), &mut text);
+    testing::print(&rt, "archive: ", lines(&text[..n]));
+    testing::print(&rt, " lines, ", script(&text[..n], &mut w));
+    let _ = println!(rt; " as they should be");
 }

@@ -104,7 +104,7 @@ fn reported(text: &[u8], from: usize, row: [u64; 7]) -> bool {
         (row[3] % 301) as usize,
     );
     let n = row[6] as usize;
-    says(a, row) && check::same(part(&out, 0, n), part(text, from % 65536 + 165, n))
+    says(a, row) && part(&out, 0, n) == part(text, from % 65536 + 165, n)
 }
 
 // What the largest card has in its fields: capacity and reference, then trials scattered over the box.
@@ -197,20 +197,20 @@ fn count(text: &[u8], big: &[u8], name: u8) -> u64 {
 }
 
 // How many lines of each name come out as they should.
-fn counts(text: &[u8], big: &[u8]) {
-    print(b"forms ", count(text, big, b'f'));
-    print(b" shapes ", count(text, big, b's'));
-    print(b" trials ", count(text, big, b't'));
-    print(b" slices ", count(text, big, b'l'));
-    print(b" reports ", count(text, big, b'r'));
-    print(b" largest ", count(text, big, b'b'));
+fn counts(rt: &impl Print, text: &[u8], big: &[u8]) {
+    print(rt, "forms ", count(text, big, b'f'));
+    print(rt, " shapes ", count(text, big, b's'));
+    print(rt, " trials ", count(text, big, b't'));
+    print(rt, " slices ", count(text, big, b'l'));
+    print(rt, " reports ", count(text, big, b'r'));
+    print(rt, " largest ", count(text, big, b'b'));
 }
 
-fn main() {
-    let mut text = io::large_buffer();
+fn main(rt: HostRuntime) {
+    let mut text = [0u8; 65536];
     let mut big = [b'\n'; 65536];
     scatter(&mut big);
-    let n = io::read_full(0, &mut text);
-    counts(&text[..n], &big);
-    io::write_all(1, b"\n");
+    let n = testing::read_full(&mut rt.stdin(), &mut text);
+    counts(&rt, &text[..n], &big);
+    let _ = println!(rt);
 }

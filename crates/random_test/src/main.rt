@@ -272,7 +272,7 @@ fn differing() -> u64 {
     differ
 }
 
-fn main() {
-    testing::print(b"random: 100 archives, ", differing());
-    io::write_all(1, b" differ\n");
+fn main(rt: HostRuntime) {
+    testing::print(&rt, "random: 100 archives, ", differing());
+    let _ = println!(rt; " differ");
 }

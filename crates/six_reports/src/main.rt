@@ -2,18 +2,21 @@
 // the other, or one line for a refused card. Errors of reading and writing as in the report program.
 #![tactic(auto)]
 
-use streams::{Reading, read_card, write_text};
+use streams::{Reading, fail, read_card, write_text};
 
-fn main() {
+fn main(rt: HostRuntime) {
     // `print` asks for so much room, and proves that it is enough for a card of any length.
     let mut input = [0u8; 33 * 514];
     let mut out = [0u8; 318 * 513];
-    let Reading::Bytes(read) = read_card(&mut input) else {
-        os::fail(b"six_reports: cannot read the card");
-        return;
+    let read = match read_card(&mut rt.stdin(), &mut input) {
+        Reading::Bytes(read) => read,
+        Reading::Failed(error) => {
+            fail(&rt, "six_reports: cannot read the card", &error);
+            return;
+        }
     };
     let length = sixfold::print(&input, read, &mut out);
-    if !write_text(&out[..length]) {
-        os::fail(b"six_reports: cannot write the reports");
+    if let Err(error) = write_text(&mut rt.stdout(), &out[..length]) {
+        fail(&rt, "six_reports: cannot write the reports", &error);
     }
 }

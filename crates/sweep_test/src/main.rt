@@ -7,7 +7,6 @@ ghost use Rattle.hypervolume.specs.Sorted.{Small, Sorted};
 
 use hypervolume::Point;
 use hypervolume::number::less;
-use libc::STDOUT_FILENO;
 use testing::noise;
 
 // Numbers at the limits of 0, of a coordinate, of 31 and of 32 bits, each beside its neighbours.
@@ -26,7 +25,7 @@ fn edges_differ() -> u64 {
     let mut differ: u64 = 0;
     for pair in 0..144usize {
         if !edge_agrees(LIMITS[pair / 12], LIMITS[pair % 12]) {
-            differ = differ + 1;
+            differ += 1;
         }
     }
     differ
@@ -38,13 +37,11 @@ fn fill(set: u64, limit: u64, points: &mut [[u32; 3]])
     ensures { Sorted points.new }
 {
     let mut z: u64 = 0;
-    let mut i: usize = 0;
-    while i < points.len() {
+    for i in 0..points.len() {
         let x = noise(set, 0, i as u64) % limit;
         let y = noise(set, 1, i as u64) % limit;
-        z = z + noise(set, 2, i as u64) % 2;
+        z += noise(set, 2, i as u64) % 2;
         hypervolume::put_point(points, i, Point::new(x, y, z));
-        i = i + 1;
     }
 }
 
@@ -84,24 +81,19 @@ fn spread(places: &[u16], counts: &[u64]) -> [u64; 12]
     ensures { 12 ≡ length result }
 {
     let mut all = [0u64; 12];
-    let mut k: usize = 0;
-    while k < places.len() {
-        let place = places[k] as usize;
-        testing::put(&mut all, place, testing::at(counts, k));
-        k = k + 1;
+    for (k, place) in places.iter().enumerate() {
+        testing::put(&mut all, *place as usize, testing::at(counts, k));
     }
     all
 }
 
 // Whether the n counts in `out` are right: of each point's corner with u, the cells that one point alone dominates.
 fn right(points: &[u32], reference: Point, u: Point, out: &[u64], n: usize) -> bool {
-    let mut t: usize = 0;
-    while t < n {
+    for t in 0..n {
         let corner = u.join(testing::point_at(points, t));
         if testing::cells(points, reference, corner, 1, 1) != testing::at(out, t) {
             return false;
         }
-        t = t + 1;
     }
     true
 }
@@ -157,14 +149,14 @@ fn sets_differ() -> u64 {
     let mut differ: u64 = 0;
     for set in 0..400u64 {
         if !agrees(set) {
-            differ = differ + 1;
+            differ += 1;
         }
     }
     differ
 }
 
-fn main() {
-    testing::print(b"edge: 144 pairs, ", edges_differ());
-    testing::print(b" differ\nsweep: 400 sets, ", sets_differ());
-    io::write_all(STDOUT_FILENO, b" differ\n");
+fn main(rt: HostRuntime) {
+    testing::print(&rt, "edge: 144 pairs, ", edges_differ());
+    testing::print(&rt, " differ\nsweep: 400 sets, ", sets_differ());
+    let _ = println!(rt; " differ");
 }

@@ -1,10 +1,11 @@
 // What the test programs share: numbers that look random, a direct count of cells, words read and written safely
-// anywhere, a script of calls, and printing. No other crate uses it.
+// anywhere, a script of calls, standard input and printing. No other crate uses it.
 #![tactic(auto)]
 
 ghost use Rattle.std.specs.Prelude.{◌≡◌, ◌≤◌, ◌<◌, length};
 
 use hypervolume::Point;
+use std::io::{Print, Read};
 
 // A number below 32,768 that looks random, the i-th of a kind for a set.
 pub fn noise(set: u64, kind: u64, i: u64) -> u64
@@ -35,34 +36,36 @@ pub fn put(w: &mut [u64], i: usize, value: u64) {
 
 // Whether the words are the same.
 pub fn same(a: &[u64], b: &[u64]) -> bool {
-    if a.len() != b.len() {
-        return false;
-    }
-    let mut i: usize = 0;
-    while i < a.len() {
-        if a[i] != b[i] {
-            return false;
-        }
-        i += 1;
-    }
-    true
+    a == b
 }
 
 // Whether the words from `from` on all have this value.
 pub fn filled(words: &[u64], from: usize, value: u64) -> bool {
-    let mut i = from;
-    while i < words.len() {
+    for i in from..words.len() {
         if words[i] != value {
             return false;
         }
-        i += 1;
     }
     true
 }
 
-pub fn print(name: &[u8], count: u64) {
-    io::write_all(1, name);
-    io::print_decimal(1, count);
+// Prints both. Where a write fails, the output is not the one that is due, and that it is compared with.
+pub fn print(rt: &impl Print, name: &str, count: u64) {
+    let _ = print!(rt; "{name}{count}");
+}
+
+// Reads until the bytes are full, the input ends or a read fails, and answers how many were read to their front.
+pub fn read_full<R: Read>(input: &mut R, bytes: &mut [u8]) -> usize
+    ensures { result ≤ length bytes.new }
+{
+    let mut read = 0;
+    while read < bytes.len() {
+        match input.read(&mut bytes[read..]) {
+            Ok(more) if more > 0 => read += more,
+            _ => return read,
+        }
+    }
+    read
 }
 
 // The first n words, as far as there are so many.
@@ -88,42 +91,33 @@ pub fn part(text: &[u8], from: usize, n: usize) -> &[u8] {
 
 // The first place from `from` on that is no space.
 fn past_spaces(text: &[u8], from: usize) -> usize {
-    let mut i = from;
-    while i < text.len() {
+    for i in from..text.len() {
         if text[i] != b' ' {
             return i;
         }
-        i += 1;
     }
-    i
+    text.len().max(from)
 }
 
 // The first place from `from` on that is a space or ends the line.
 fn past_word(text: &[u8], from: usize) -> usize {
-    let mut i = from;
-    while i < text.len() {
+    for i in from..text.len() {
         if text[i] <= b' ' {
             return i;
         }
-        i += 1;
     }
-    i
+    text.len().max(from)
 }
 
 // The number of the digits from `from` on, up to 19 of them; 0 where there is none.
 fn number(text: &[u8], from: usize) -> u64 {
     let mut value: u64 = 0;
-    let mut i = from;
-    while i < text.len() {
+    for i in from..text.len() {
         let byte = text[i];
-        if byte < b'0' {
-            return value;
-        }
-        if b'9' < byte {
+        if byte < b'0' || b'9' < byte {
             return value;
         }
         value = value % 1000000000000000000 * 10 + (byte - b'0') as u64;
-        i += 1;
     }
     value
 }
@@ -146,14 +140,12 @@ pub fn next_line(text: &[u8], from: usize) -> usize
     requires { from < length text.now }
     ensures { (from < result) × (result ≤ length text.now) }
 {
-    let mut i = from;
-    while i < text.len() {
+    for i in from..text.len() {
         if text[i] == b'\n' {
             return i + 1;
         }
-        i += 1;
     }
-    i
+    text.len()
 }
 
 // A coordinate of the points; beyond the box behind the end.

@@ -19,10 +19,8 @@ fn value(fields: &[u8], from: usize) -> u64
 // How many of the fields, one behind the other, have these values; 0 behind the last.
 fn fields(fields: &[u8], values: &[u64]) -> u64 {
     let mut found: u64 = 0;
-    let mut from: usize = 0;
-    while from + 8 <= fields.len() {
-        found = found % 1000 + one(value(fields, from) == at(values, from / 8));
-        from += 8;
+    for i in 0..fields.len() / 8 {
+        found = found % 1000 + one(value(fields, 8 * i) == at(values, i));
     }
     found
 }
@@ -63,10 +61,8 @@ fn line(card: &[u8], at: usize) -> u64 {
 // How many of the lines at these bytes are so.
 fn lines_so(card: &[u8], places: &[usize], due: u64) -> u64 {
     let mut found: u64 = 0;
-    let mut t: usize = 0;
-    while t < places.len() {
-        found = found % 1000 + one(line(card, places[t]) == due);
-        t += 1;
+    for place in places {
+        found = found % 1000 + one(line(card, *place) == due);
     }
     found
 }
@@ -97,21 +93,13 @@ fn lines() -> u64 {
 // Writes the values into columns of these widths one behind the other, from byte 1 on, while there is room.
 fn write(out: &mut [u8], widths: &[usize], values: &[u64]) {
     let mut from: usize = 1;
-    let mut t: usize = 0;
-    while t < widths.len() {
-        let width = widths[t];
-        if width == 0 {
-            return;
-        }
-        if out.len() < width {
-            return;
-        }
-        if out.len() - width < from {
+    for (t, width) in widths.iter().enumerate() {
+        let width = *width;
+        if width == 0 || out.len() < width || out.len() - width < from {
             return;
         }
         text::put_number(out, from, width, at(values, t));
         from += width;
-        t += 1;
     }
 }
 
@@ -124,13 +112,13 @@ fn columns() -> u64 {
         &[0, 9, 10, 99999999, 0, 18446744073709551615, 12, 7],
     );
     let due = b".       0       9      1099999999                   018446744073709551615 127.";
-    one(check::same(&out, due))
+    one(out == *due)
 }
 
-fn main() {
-    print(b"fields ", good_fields());
-    print(b" damaged ", damaged_fields());
-    print(b" lines ", lines());
-    print(b" columns ", columns());
-    io::write_all(1, b"\n");
+fn main(rt: HostRuntime) {
+    print(&rt, "fields ", good_fields());
+    print(&rt, " damaged ", damaged_fields());
+    print(&rt, " lines ", lines());
+    print(&rt, " columns ", columns());
+    let _ = println!(rt);
 }
