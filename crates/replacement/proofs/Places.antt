@@ -7,16 +7,14 @@ use native.Mathlib.Nat.{le_trans}
 use native.Mathlib.Omega.{arith}
 use lib.ListN.{length, get_or}
 use lib.IntN.{ℤ, pos}
-use borrow.Author.Tests.{lt-ltb}
 use Rattle.hypervolume.specs.Counts.{gain}
 use Rattle.hypervolume.proofs.Counting.{gain_le_box}
-use Rattle.words.specs.Archive.{Trial, Row, point, trials, points}
+use Rattle.words.specs.Archive.{Trial, point, trials, points}
 use Rattle.words.specs.Layout.{word, read}
 use Rattle.words.specs.Format.{held, coordinates_allowed, archive_rows}
 use Rattle.words.specs.Places.{row_at}
-use Rattle.calls.specs.declared.Change.{Change}
 use Rattle.calls.specs.Calls.{held_trials, row_of, others, without, insert_gain, removal_loss, reference_of}
-use Rattle.calls.specs.Replacement.{difference, change_of, replace_rows, change, replace_effect, Replaceable}
+use Rattle.calls.specs.Replacement.{difference, change_of, replace_rows, change, replace_effect}
 use Rattle.calls.proofs.Replacement.{replacements}
 use Rattle.calls.proofs.Known.{known, count_rows}
 use Rattle.calls.proofs.Answers.{guard_yes, guard_no, rows_refused, rows_passed}
