@@ -11,7 +11,7 @@ use Rattle.slices.specs.Amounts.{moved, Each}
 use Rattle.hypervolume.specs.Cells.{box}
 use Rattle.hypervolume.specs.Counts.{gain, joints}
 use Rattle.hypervolume.specs.Sorted.{Small, Sorted}
-use Rattle.words.specs.Archive.{Row, Archive, reference, point}
+use Rattle.words.specs.Archive.{Row, Archive, point}
 use Rattle.words.proofs.Passed.{shape_bounds, box_bound}
 use Rattle.calls.specs.Calls.{reference_of, held_points, least_row, removal_loss, removed, dropped, note}
 use Rattle.calls.proofs.Members.{split}
