@@ -1,0 +1,28 @@
+-- `write` meets its contract: a key for each record, in two arrays.
+use Prim.Native.Nat.{ℕ}
+use native.Mathlib.Omega.{arith}
+use mathlib.Core.Path.{sym}
+use lib.ListN.{replicate}
+use lib.Seq.{length-take-le}
+use Rattle.calls.proofs.Known.{known}
+use Rattle.axes.proofs.rearranging.write.Goals as goal
+
+pub bounds-w-0 : goal.bounds-w-0
+bounds-w-0 c = omega (arith, known _ c.requires.0)
+
+pub slice_bounds-keys-end : goal.slice_bounds-keys-end
+slice_bounds-keys-end c = (known _ c.requires.0).few
+
+pub slice_bounds-write_by-end : goal.slice_bounds-write_by-end
+slice_bounds-write_by-end c = sym (length-take-le {A = ℕ} _ (replicate 512 0) (known _ c.requires.0).few)
+
+pub slice_bounds-out-end : goal.slice_bounds-out-end
+slice_bounds-out-end c = (known _ c.requires.0).few
+
+pub slice_bounds-write_by-end-2 : goal.slice_bounds-write_by-end-2
+slice_bounds-write_by-end-2 c = sym (length-take-le {A = ℕ} _ (replicate 512 0) (known _ c.requires.0).few)
+
+pub write_by-requires : goal.write_by-requires
+write_by-requires c =
+    let few = length-take-le {A = ℕ} _ (replicate 512 0) (known _ c.requires.0).few in
+    (c.requires.0, c.requires.1, few, few, c.requires.2)
