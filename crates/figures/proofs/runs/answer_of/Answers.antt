@@ -1,0 +1,64 @@
+-- `answer_of` meets its contract: each field from the totals.
+use mathlib.Core.Path.{◌≡◌, ap, ◌∙◌}
+use native.Mathlib.Omega.{arith}
+use Rattle.rounding.specs.Nearest.{nearest}
+use Rattle.hypervolume.specs.Cells.{holds, box}
+use Rattle.words.specs.Layout.{read}
+use Rattle.words.proofs.Passed.{reference_small}
+use Rattle.calls.specs.Calls.{box_of}
+use Rattle.calls.proofs.Known.{known}
+use Rattle.figures.specs.Figures.{ascending}
+use Rattle.figures.proofs.Loading.{first_passes, runs_totals, sorted_long, share_asks}
+use Rattle.figures.proofs.Answering.{answer_is}
+use Rattle.figures.proofs.runs.answer_of.Goals.{After-box_of}
+use Rattle.figures.proofs.runs.answer_of.Goals as goal
+
+boxed : (c : After-box_of) → c.box_of.result ≡ box_of (read c.args.w.now)
+unfolding read
+boxed c = c.box_of.ensures ∙ ap box c.reference_of.ensures
+
+pub bounds-sorted-0 : goal.bounds-sorted-0
+bounds-sorted-0 c =
+    let asked = c.requires in
+    let long : _ = sorted_long asked.0 asked.1 asked.2 in
+    omega (arith, asked.0.some)
+
+pub overflow_sub-greatest : goal.overflow_sub-greatest
+overflow_sub-greatest c = c.requires.0.some
+
+pub bounds-sorted-n : goal.bounds-sorted-n
+bounds-sorted-n c =
+    let asked = c.requires in
+    let long : _ = sorted_long asked.0 asked.1 asked.2 in
+    omega (arith, asked.0.some)
+
+pub overflow_sub-median : goal.overflow_sub-median
+overflow_sub-median c = omega (arith, c.requires.0.some)
+
+pub bounds-sorted-n-2 : goal.bounds-sorted-n-2
+bounds-sorted-n-2 c =
+    let asked = c.requires in
+    let long : _ = sorted_long asked.0 asked.1 asked.2 in
+    omega (arith, asked.0.some)
+
+pub sum-requires : goal.sum-requires
+sum-requires c =
+    let asked = c.requires in
+    runs_totals asked.0 asked.1
+
+pub reference_of-requires : goal.reference_of-requires
+reference_of-requires c = first_passes c.requires.0
+
+pub box_of-requires : goal.box_of-requires
+box_of-requires c =
+    reference_small _ _ (known _ (first_passes c.requires.0)).shaped c.reference_of.ensures
+
+pub millionths-requires : goal.millionths-requires
+millionths-requires c =
+    let asked = c.requires in
+    share_asks asked.0 _ (boxed (goal.at.millionths-requires c).After-box_of) (asked.2 ∙ ap ascending asked.1) (omega (arith, asked.0.some))
+
+pub returns : goal.returns
+returns c =
+    let asked = c.requires in
+    answer_is asked.0 asked.1 asked.2 c.sum.ensures (c.millionths.ensures ∙ ap (nearest _) (boxed (goal.at.returns c).After-box_of)) (c.one_if.ensures ∙ ap holds c.all_audited.ensures)

@@ -1,0 +1,6 @@
+-- `same_reference` meets its contract: words 2, 3 and 4.
+use Rattle.figures.proofs.Loading.{same_by_words}
+use Rattle.figures.proofs.runs.same_reference.Goals as goal
+
+pub returns : goal.returns
+returns c = same_by_words _ _ c.both.ensures c.both-2.ensures
