@@ -123,12 +123,9 @@ function closed(s, i, depth) {
 }
 
 # What an `ensures` does not speak of.
-function left_out(ensures, params, param, n, i, part, out, bound) {
+function left_out(ensures, params, param, n, i, part, out) {
     if (ensures == "") return ", everything: there is no ensures"
-    if (!match(ensures, /λ [a-z]+\./)) return ", the answer"
-    bound = substr(ensures, RSTART, RLENGTH - 1)
-    sub(/^.* /, "", bound)
-    if (!times(substr(ensures, RSTART + RLENGTH), bound)) out = ", the answer"
+    if (!times(ensures, "result")) out = ", the answer"
     n = split(params, param, /,/)
     for (i = 1; i <= n; i++) {
         if (split(param[i], part, /:/) != 2) continue
@@ -137,9 +134,9 @@ function left_out(ensures, params, param, n, i, part, out, bound) {
             if (!times(ensures, part[1])) out = out ", " part[1]
             continue
         }
-        if (!index(ensures, "(" part[1] " .entry)")) out = out ", " part[1] " at entry"
+        if (!times(ensures, part[1] (part[2] ~ /&mut/ ? "[.]old" : "[.]now"))) out = out ", " part[1] " at entry"
         if (part[2] !~ /&mut/) continue
-        if (!index(ensures, "(" part[1] " .exit)")) out = out ", " part[1] " at exit"
+        if (!times(ensures, part[1] "[.]new")) out = out ", " part[1] " at exit"
     }
     return out
 }
@@ -148,18 +145,20 @@ END {
     text = squeezed(without_comments(text))
     structs("source", text)
     marks = times(text, "no_mangle") + times(text, "extern") + 2 * times(text, "export_name")
-    while (match(text, /#\[no_mangle\] pub extern "C" fn [A-Za-z_0-9]+\([^()]*\)/)) {
+    while (match(text, /#\[unsafe\(no_mangle\)\] pub extern "C" fn [A-Za-z_0-9]+\([^()]*\)/)) {
         marks -= 2
-        split(substr(text, RSTART, RLENGTH), part, / fn |\(|\)/)
-        name = part[2]
-        params = part[3]
+        whole = substr(text, RSTART, RLENGTH)
+        sub(/^.* fn /, "", whole)
+        split(whole, part, /\(|\)/)
+        name = part[1]
+        params = part[2]
         text = substr(text, RSTART + RLENGTH)
         match(text, /requires|ensures|\{/)
         result = squeezed(substr(text, 1, RSTART - 1))
         sub(/^-> /, "", result)
         text = substr(text, RSTART)
         ensures = ""
-        while (match(text, /^(requires|ensures) \{/)) {
+        while (match(text, /^(requires|ensures)( [a-z_0-9]+)? \{/)) {
             if (text ~ /^requires/) fault(name " has a requires")
             end = RLENGTH - 1 + closed(substr(text, RLENGTH))
             if (text ~ /^ensures/) ensures = ensures substr(text, 1, end)
@@ -171,7 +170,7 @@ END {
         say("source", name, prototype(result, name, params))
         say("contract", name, left_out(ensures, params))
     }
-    if (marks) fault("an export in another form than #[no_mangle] pub extern \"C\" fn")
+    if (marks) fault("an export in another form than #[unsafe(no_mangle)] pub extern \"C\" fn")
 }'
 
 header='
@@ -269,7 +268,7 @@ END {
     nm -g --defined-only "$lib" >"$work/symbols" || printf 'fault\t\tnm cannot read the library\n'
     awk 'NF == 3 && $2 == "T" && $3 ~ /^ta_/ { print "library\t" $3 "\t"; next }
         NF == 3 { print "fault\t\tthe library has a symbol " $3 " of kind " $2 }' "$work/symbols"
-    find crates/ -path '*/src/*' -name '*.rt' | sort | while IFS= read -r file; do
+    find crates/*/src -name '*.rt' | sort | while IFS= read -r file; do
         awk "$common$source" "$file"
     done
     awk "$common$header" include/trial_archive.h

@@ -29,7 +29,7 @@ install_missing() {
 # The library as it stands in this folder; without the Rattle toolchain, the one built before.
 library() {
     if command -v rt >/dev/null; then
-        rt staticlib trial_archive >"$out/library.log" 2>&1 || { tail "$out/library.log" >&2; return 1; }
+        tools/build trial_archive >"$out/library.log" 2>&1 || { tail "$out/library.log" >&2; return 1; }
     elif [ ! -f "$lib" ]; then
         echo "no $lib, and no rt to build it" >&2
         return 1

@@ -1,6 +1,6 @@
 //! Tells the linker where `libtrial_archive.a` stands: in the folder that
 //! `TRIAL_ARCHIVE_LIB_DIR` names, absolute or relative to this package, else where
-//! `rt staticlib trial_archive` writes it. Where it is missing, says what to run.
+//! `tools/build` puts it. Where it is missing, says what to run.
 
 use std::env;
 use std::path::Path;
@@ -18,7 +18,7 @@ fn main() {
     println!("cargo:rerun-if-changed={}", library.display());
     if !library.is_file() {
         eprintln!("there is no {}", library.display());
-        eprintln!("run `rt staticlib trial_archive` in the repository's root, or set {VARIABLE}");
+        eprintln!("run `tools/build trial_archive` in the repository's root, or set {VARIABLE}");
         eprintln!("to the folder that has libtrial_archive.a");
         process::exit(1);
     }
