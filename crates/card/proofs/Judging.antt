@@ -18,7 +18,7 @@ use Rattle.calls.specs.Lent.{leaves, start_rows, start, insert}
 use Rattle.calls.proofs.Counted.{insert_fits, inserted_counted, empty_counted, counted_is_counted}
 use Rattle.calls.proofs.Sound.{insert_passed, empty_sound, inserted_count, inserted_sound}
 use Rattle.card.specs.Card.{shape_on, trial_on, malformed, by_form, first_line, further_line, refused, accepted, judged, further, from_first, lines, load}
-use Rattle.card.specs.Verdict.{refusal, in_turn, judge_further, judge, answer_of, words_of, carried_out}
+use Rattle.card.specs.Verdict.{in_turn, judge_further, judge, answer_of, words_of, carried_out}
 
 -- An archive as loading leaves it after each line.
 pub record Fair (a : Archive) : Type 0 where
