@@ -1,0 +1,8 @@
+-- `sixfold::put_report` meets its contract: the report of the archive rearranged, which passes again.
+use Rattle.sixfold.proofs.Reports.{report_put}
+use Rattle.sixfold.proofs.put_report.Goals as goal
+
+pub returns : goal.returns
+returns c =
+    let asked = c.requires in
+    report_put _ _ asked.0 asked.1 _ c.write.ensures _ _ asked.3 c.report.ensures
