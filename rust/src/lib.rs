@@ -38,7 +38,7 @@
 //! # Building and testing
 //!
 //! The library itself is `libtrial_archive.a`. It is sought in `target/staticlib` of the
-//! repository, where `rt staticlib trial_archive` writes it, or in the folder that the variable
+//! repository, where `tools/build trial_archive` writes it, or in the folder that the variable
 //! `TRIAL_ARCHIVE_LIB_DIR` names. Run the tests by `cargo test --release`: they make hundreds of
 //! thousands of calls, which take seconds then and a minute or two in a debug build.
 //!
