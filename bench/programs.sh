@@ -20,8 +20,8 @@ six_reports=$(absolute "$3")
 # The system's words for an error are in English.
 export LC_ALL=C
 
-# wrote WHAT STATUS EXPECTED [LINE]: one test. The last run ended with 0 (the language has no other
-# status), wrote the file EXPECTED, and on standard error this line, or nothing.
+# wrote WHAT STATUS EXPECTED [LINE]: one test. The last run ended with 0 (as the programs always do),
+# wrote the file EXPECTED, and on standard error this line, or nothing.
 wrote() {
     : >"$work/line"
     [ $# -lt 4 ] || printf '%s\n' "$4" >"$work/line"
@@ -192,12 +192,12 @@ unwritable() {
     wrote "closed output" $? "$nothing" "$writing: Bad file descriptor"
     "$program" <"$here/cards/empty.card" >/dev/full 2>"$work/err"
     wrote "a refusal on a full device" $? "$nothing" "$writing: No space left on device"
-    # A pipe that nobody reads: the system's signal ends the program; where it is ignored, the error
-    # is told.
+    # A pipe that nobody reads: the programs ignore the system's signal, whatever they were started
+    # with, and the error is told.
     # shellcheck disable=SC2094
     exec 3<>"$work/pipe" 4>"$work/pipe" 3<&-
     env --default-signal=PIPE "$program" <"$card" >&4 2>"$work/err"
-    wrote "a pipe that nobody reads" $(($? - 128 - 13)) "$nothing"
+    wrote "a pipe that nobody reads" $? "$nothing" "$writing: Broken pipe"
     env --ignore-signal=PIPE "$program" <"$card" >&4 2>"$work/err"
     wrote "a pipe that nobody reads, the signal ignored" $? "$nothing" "$writing: Broken pipe"
     exec 4>&-

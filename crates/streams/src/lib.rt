@@ -1,9 +1,10 @@
 // A card read from a stream and a text written to one, for the programs that read a card and print a text of its archive.
 #![tactic(auto)]
 
-ghost use Rattle.std.specs.Prelude.{length, OnOk};
+ghost use Rattle.std.specs.Prelude.{length, OnOk, OnErr};
 ghost use Rattle.std.specs.Io.KnownBytes.{Appends};
 ghost use Rattle.streams.specs.Read.{Fits, ReadsFront};
+ghost use Rattle.streams.specs.Written.{AppendsPart};
 
 use std::io;
 use std::io::{Cursor, Eprint, ErrorKind, Read, Write};
@@ -13,6 +14,13 @@ use std::io::{Cursor, Eprint, ErrorKind, Read, Write};
 pub enum Reading {
     Bytes(usize),
     Failed(io::Error),
+}
+
+// Why a program did not print a text of the card that it reads.
+#[derive(Drop)]
+pub enum Failure {
+    Reading(io::Error),
+    Writing(io::Error),
 }
 
 // Whether a call that failed is to be made again, since a signal came before it had moved a byte.
@@ -43,9 +51,10 @@ pub fn read_card<R: Read>(card: &mut R, input: &mut [u8]) -> Reading
     Reading::Bytes(read)
 }
 
-// Writes all of the text, with the same patience.
+// Writes all of the text, with the same patience, or up to where a write failed.
 pub fn write_text<W: Write>(out: &mut W, text: &[u8]) -> io::Result<()>
-    ensures { OnOk result (Appends (W.contents out.old) (W.contents out.new) text.now) }
+    ensures all { OnOk result (Appends (W.contents out.old) (W.contents out.new) text.now) }
+    ensures part { OnErr result (AppendsPart (W.contents out.old) (W.contents out.new) text.now) }
 {
     let mut written = 0;
     let mut patience = 1000000u32;
