@@ -161,7 +161,8 @@ END {
         while (match(text, /^(requires|ensures)( [a-z_0-9]+)? \{/)) {
             if (text ~ /^requires/) fault(name " has a requires")
             end = RLENGTH - 1 + closed(substr(text, RLENGTH))
-            if (text ~ /^ensures/) ensures = ensures substr(text, 1, end)
+            # without its label, which may be a word that is sought
+            if (text ~ /^ensures/) ensures = ensures substr(text, RLENGTH, end - RLENGTH + 1)
             text = substr(text, end + 1)
             sub(/^ /, "", text)
         }

@@ -61,17 +61,26 @@ fn ties_of_two_million_cells() {
         assert_eq!(archive.share(), Ok(expected));
         assert_eq!(archive.audit(), Ok(true));
     }
+    in_two_million_cells(&share);
 }
 
-/// Shares of totals at ties and beside them. In a box of two million cells every odd total is a tie;
-/// in the largest box odd multiples of 2^53 are.
-pub fn at_ties(share: impl Fn(Point, u64) -> u64) {
+/// In a box of two million cells every odd total is a tie.
+fn in_two_million_cells(share: &impl Fn(Point, u64) -> u64) {
     for total in 0..=2_000 {
         let even = total / 2;
         let expected = if total % 2 == 0 { even } else { even + even % 2 };
         assert_eq!(share([2, 1_000, 1_000], total), expected);
         assert_eq!(share([1_000, 2, 1_000], 2_000_000 - total), 1_000_000 - expected);
     }
+}
+
+/// Odd multiples of 2^53 are the ties of the largest box.
+#[test]
+fn ties_of_the_largest_box() {
+    in_the_largest_box(&share);
+}
+
+fn in_the_largest_box(share: &impl Fn(Point, u64) -> u64) {
     for odd in (1..128).step_by(2) {
         let tie = odd << 53;
         let below = 15_625 * odd / 2;
@@ -81,9 +90,10 @@ pub fn at_ties(share: impl Fn(Point, u64) -> u64) {
     }
 }
 
-#[test]
-fn ties() {
-    at_ties(share);
+/// Shares of totals at ties and beside them, by any call that tells a share.
+pub fn at_ties(share: impl Fn(Point, u64) -> u64) {
+    in_two_million_cells(&share);
+    in_the_largest_box(&share);
 }
 
 #[test]

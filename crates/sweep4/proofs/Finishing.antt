@@ -100,7 +100,7 @@ sum_has (suc n) f j l = go (dec_lt j n) (sum_has n f j)
     go (yes m) earlier = omega (arith, earlier m)
     go (no m) earlier = let last : j ≡ n = omega arith in rw last (omega arith)
 
-module _ {reference : List ℕ} {points : List (List ℕ)} {own whose : List ℕ} {sum' : ℕ} (d : Counted reference points own whose sum') (Own-room : length points ≤ length own) (whose-room : length points ≤ length whose) where
+module _ {reference : List ℕ} {points : List (List ℕ)} {own whose : List ℕ} {sum' : ℕ} (d : Counted reference points own whose sum') (own_room : length points ≤ length own) (whose_room : length points ≤ length whose) where
   abbrev keys : List ℕ
   keys = d.keys
 
@@ -123,10 +123,10 @@ module _ {reference : List ℕ} {points : List (List ℕ)} {own whose : List ℕ
   h = subst (λ k. Swept reference points d.keys k own whose sum') all_many d.swept
 
   places_many : length places ≡ n
-  places_many = length-take-le n whose whose-room
+  places_many = length-take-le n whose whose_room
 
   numbers_many : length numbers ≡ n
-  numbers_many = length-take-le n own Own-room
+  numbers_many = length-take-le n own own_room
 
   same : (f : ℕ → ℕ) → sum_of f places ≡ sum_of (λ key. f (key % 512)) keys
   same f = h.same f ∙ ap (sum_of (λ key. f (key % 512))) (take_all n keys (omega (arith, all_many)))
@@ -141,7 +141,7 @@ module _ {reference : List ℕ} {points : List (List ℕ)} {own whose : List ℕ
   held_inside : (k : ℕ) → k < n → get_or whose k 0 < n
   held_inside k l =
       ltb-true (get_or whose k 0) n
-      (each_held keys whose n (omega (arith, all_many)) whose-room h.same (λ a. ltb a n)
+      (each_held keys whose n (omega (arith, all_many)) whose_room h.same (λ a. ltb a n)
       (λ j m. lt-ltb (get_or keys j 0 % 512) n (place_of t j (omega (arith, all_many)))) k l)
 
   stands : (j : ℕ) → j < n → Stands places (length places) j
@@ -238,15 +238,15 @@ module _ {reference : List ℕ} {points : List (List ℕ)} {own whose : List ℕ
       rw (counted_total, back out (omega arith), zero-add (suc (length (contributions reference points))), counts_many)
 
 -- The same of the points of coordinates, by how many there are.
-module _ (coords : List ℕ) {reference own whose : List ℕ} {sum : ℕ} (d : Counted reference (points_of coords) own whose sum) (Own-room : length coords / 4 ≤ length own) (whose-room : length coords / 4 ≤ length whose) (out : List ℕ) (room : length coords / 4 < length out) where
+module _ (coords : List ℕ) {reference own whose : List ℕ} {sum : ℕ} (d : Counted reference (points_of coords) own whose sum) (own_room : length coords / 4 ≤ length own) (whose_room : length coords / 4 ≤ length whose) (out : List ℕ) (room : length coords / 4 < length out) where
   pub count_placeable : Placeable (take (length coords / 4) own) (take (length coords / 4) whose) out
   count_placeable =
       subst (λ n. n ≤ length own → n ≤ length whose → n < length out → Placeable (take n own) (take n whose) out) (points_many coords)
       (λ a b c. counted_placeable d a b out c)
-      Own-room whose-room room
+      own_room whose_room room
 
   pub count_put : sum ∷ spread (drop 1 out) (take (length coords / 4) whose) (take (length coords / 4) own) ≡ put out 0 (counts_of reference (points_of coords))
   count_put =
       subst (λ n. n ≤ length own → n ≤ length whose → n < length out → sum ∷ spread (drop 1 out) (take n whose) (take n own) ≡ put out 0 (counts_of reference (points_of coords))) (points_many coords)
       (λ a b c. counted_put d a b out c)
-      Own-room whose-room room
+      own_room whose_room room
