@@ -5,6 +5,7 @@ use mathlib.Core.List.{List, append_assoc}
 use native.Mathlib.Nat.{mul-le-mul_left}
 use native.Mathlib.Omega.{arith}
 use lib.ListN.{length, take, drop, set, replicate, length-append, length-take, length-replicate}
+use Rattle.std.proofs.Math.Seq.{take-append_seam}
 use Rattle.slices.specs.Put.{put}
 use Rattle.slices.proofs.Put.{put_front}
 use Rattle.text.specs.Lines.{newline}
@@ -22,7 +23,7 @@ use Rattle.card.proofs.Judging.{loads}
 use Rattle.card.proofs.Verdicts as verdicts
 use Rattle.card.proofs.Theorems as cards
 use Rattle.card.proofs.Theorems.{not_zero, cards_load}
-use Rattle.printing.specs.Printed.{refusal_line, shown, loaded, printed, PrintRoom, PrintsRead, Printing}
+use Rattle.printing.specs.Printed.{refusal_line, shown, loaded, printed, Prints, PrintRoom, PrintsRead, Printing}
 use Rattle.printing.specs.Forms.{text_of}
 use Rattle.printing.specs.Cards.{LoadRoom, LoadsRead}
 use Rattle.printing.proofs.Laid.{Laid, laid_column, laid_byte}
@@ -149,3 +150,8 @@ print_form first wide {out = out} {words = words} {out₁ = out₁} {a = a} room
 
 pub printing : Printing
 printing = record { enough_read = enough_read }
+
+-- What is to be written out, the output's front, is what the program prints of the card.
+pub printed_front : {text : Archive → List ℕ} {card out : List ℕ} {r : ℕ} {after : List ℕ} → Prints text card out r after → take r after ≡ printed text card
+unfolding put
+printed_front {text} {card} h = rw (h.long, h.text_put) (take-append_seam (printed text card) _)

@@ -1,22 +1,15 @@
 -- What is written is the output's front, and that is what the program prints of the card.
-use Rattle.std.proofs.Common.{◌≡◌, ℕ, List, take, subst}
-use Rattle.std.proofs.Math.Seq.{take-append_seam}
+use Rattle.std.proofs.Common.{subst}
 use Rattle.std.proofs.lemmas.Option.{IfSome_then}
 use Rattle.std.specs.Io.KnownBytes.{Appends}
-use Rattle.slices.specs.Put.{put}
-use Rattle.printing.specs.Printed.{Prints, printed}
-use Rattle.reports.specs.Report.{report_text}
+use Rattle.printing.proofs.Printouts.{printed_front}
 use Rattle.streams.specs.Written.{AppendsPart}
 use Rattle.report.proofs.report.Goals as goal
 
-front : {card out : List ℕ} {length : ℕ} {after : List ℕ} → Prints report_text card out length after → take length after ≡ printed report_text card
-unfolding put
-front {card} h = rw (h.long, h.text_put) (take-append_seam (printed report_text card) _)
-
 pub returns-in-Ok : goal.returns-in-Ok
 returns-in-Ok g c =
-    IfSome_then _ c.in-Bytes.ensures.front (λ card read. subst (Appends _ _) (front (c.print-length.ensures.whole card read)) c.in-Ok.ensures.all)
+    IfSome_then _ c.in-Bytes.ensures.front (λ card read. subst (Appends _ _) (printed_front (c.print-length.ensures.whole card read)) c.in-Ok.ensures.all)
 
 pub returns-in-Err : goal.returns-in-Err
 returns-in-Err g c =
-    IfSome_then _ c.in-Bytes.ensures.front (λ card read. subst (AppendsPart _ _) (front (c.print-length.ensures.whole card read)) c.in-Err.ensures.part)
+    IfSome_then _ c.in-Bytes.ensures.front (λ card read. subst (AppendsPart _ _) (printed_front (c.print-length.ensures.whole card read)) c.in-Err.ensures.part)
