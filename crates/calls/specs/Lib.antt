@@ -9,3 +9,4 @@ pub mod Earlier
 pub mod Fewest
 pub mod Replacement
 pub mod Grid
+pub mod Outcomes

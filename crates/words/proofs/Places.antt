@@ -3,11 +3,13 @@
 use Prim.Native.Nat.{ℕ, ◌+◌, ◌*◌, ◌≤◌, ◌<◌}
 use mathlib.Core.Path.{◌≡◌, refl, sym, ap, ◌∙◌}
 use mathlib.Core.List.{List, ◌∷◌, ◌++◌, []}
-use native.Mathlib.Nat.{add-zero}
+use native.Mathlib.Nat.{add-zero, le_refl}
 use native.Mathlib.Omega.{arith}
 use lib.Dec.{ltb}
 use lib.ListN.{length, get_or, drop}
 use lib.Seq.{drop-drop, get_or-drop}
+use borrow.Author.Tests.{lt-ltb, le-ltb}
+use Rattle.std.specs.Prelude.{Option, None, Some, is_some, unwrap_or, IfSome}
 use Rattle.words.specs.Archive.{Row, point, trials}
 use Rattle.words.specs.Format.{held, archive_rows}
 use Rattle.words.specs.Layout.{word, read_row, read_rows, read}
@@ -56,6 +58,11 @@ point_of_record r e = point_of_trial r.number r.point.at e
 -- The point of a record read at a place.
 pub point_at : (w : List ℕ) (i : ℕ) (r : Record) → length r.point.at ≡ 3 → as_record r ≡ row_at w i → r.point.at ≡ point (row_at w i).trial
 point_at w i r l e = sym (point_of_record r l) ∙ ap (λ (s : Row). point s.trial) e
+
+-- A place is found where the number is held, and none where it is not.
+pub found_some : (n : ℕ) (o : Option ℕ) → IfSome o (λ place. place < n) → is_some o ≡ ltb (unwrap_or o n) n
+found_some n None l = sym (le-ltb n n (le_refl n))
+found_some n (Some place) l = sym (lt-ltb place n l)
 
 -- What finding a number tells of the archive that the words hold.
 pub find_held : (w : List ℕ) (number place : ℕ) → Found w (word w 0) number place → held number (trials (read w).rows) ≡ ltb place (word w 0)

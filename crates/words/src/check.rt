@@ -2,6 +2,7 @@
 ghost use Rattle.std.specs.Prelude.{◌≡◌, true, false, ℕ, ◌+◌, ◌-◌, ◌*◌, ◌≤◌, length, get_or};
 ghost use Rattle.std.proofs.Math.Seq.{slice};
 ghost use Rattle.slices.specs.Choices.{both};
+ghost use Rattle.refusals.specs.Table.{outcome};
 ghost use Rattle.hypervolume.specs.Cells.{box};
 ghost use Rattle.words.specs.Archive.{reference, ascends};
 ghost use Rattle.words.specs.Layout.{read_shape, read};
@@ -11,6 +12,7 @@ ghost use Rattle.words.specs.Table.{marked, Marking};
 
 use crate::rows::{Row, Shape, reference_point, row_at, search, shape_of};
 use hypervolume::Point;
+use refusals::Refusal;
 use slices::both;
 
 pub fn within(low: u64, high: u64, n: u64) -> bool
@@ -134,7 +136,7 @@ fn stands(w: &[u64], cells: u64, i: usize, met: bool) -> bool
     if !met {
         return true;
     }
-    i <= search(w, i, row.number)
+    search(w, i, row.number).is_none()
 }
 
 // Row 3, the records: each allowed, in order, no number twice. One pass.
@@ -181,21 +183,21 @@ fn records_allowed(w: &[u64]) -> bool
     zeros(w, 8 + 5 * w[0] as usize, 8 + 5 * w[1] as usize)
 }
 
-// Rows 1 to 3 for any words: the number of the row that turns them down, or 0.
-pub fn refusal(w: &[u64]) -> u64
-    ensures { result ≡ archive_rows w.now 0 }
+// Rows 1 to 3 for any words: the row that turns them down.
+pub fn refusal(w: &[u64]) -> Result<(), Refusal>
+    ensures { outcome result ≡ archive_rows w.now 0 }
 {
     if w.len() < 8 {
-        return 1;
+        return Err(Refusal::SliceShort);
     }
     if !header_allowed(w) {
-        return 2;
+        return Err(Refusal::BadHeader);
     }
     if w.len() < 8 + 5 * w[1] as usize {
-        return 1;
+        return Err(Refusal::SliceShort);
     }
     if !records_allowed(w) {
-        return 3;
+        return Err(Refusal::BadRecords);
     }
-    0
+    Ok(())
 }

@@ -1,5 +1,5 @@
 // Records and the header, read from the words.
-ghost use Rattle.std.specs.Prelude.{◌≡◌, true, ◌+◌, ◌*◌, ◌≤◌, ◌<◌, length};
+ghost use Rattle.std.specs.Prelude.{◌≡◌, true, ◌+◌, ◌*◌, ◌≤◌, ◌<◌, length, unwrap_or, IfSome};
 ghost use Rattle.words.specs.Archive.{reference, key};
 ghost use Rattle.words.specs.Layout.{read_shape, word};
 ghost use Rattle.words.specs.Format.{shape_allowed, archive_rows};
@@ -110,25 +110,25 @@ pub fn reference_of(w: &[u64]) -> Point
     reference_point(shape_of(w))
 }
 
-// The first of the first n records that has this number: its place, or n where none has.
-pub fn search(w: &[u64], n: usize, number: u64) -> usize
+// The place of the first of the first n records that has this number.
+pub fn search(w: &[u64], n: usize, number: u64) -> Option<usize>
     requires { 8 + 5 * n ≤ length w.now }
-    ensures { Found w.now n number result }
+    ensures found { Found w.now n number (unwrap_or result n) }
+    ensures within { IfSome result (λ place. place < n) }
 {
-    let mut i: usize = 0;
-    while i < n {
+    for i in 0..n {
         if w[8 + 5 * i] == number {
-            return i;
+            return Some(i);
         }
-        i += 1;
     }
-    i
+    None
 }
 
-// The place of the record of this number, or the count where it is not held.
-pub fn find(w: &[u64], number: u64) -> usize
+// The place of the record of this number.
+pub fn find(w: &[u64], number: u64) -> Option<usize>
     requires { 8 + 5 * word w.now 0 ≤ length w.now }
-    ensures { Found w.now (word w.now 0) number result }
+    ensures found { Found w.now (word w.now 0) number (unwrap_or result (word w.now 0)) }
+    ensures within { IfSome result (λ place. place < word w.now 0) }
 {
     search(w, w[0] as usize, number)
 }

@@ -1,17 +1,17 @@
 -- Row 3 at a place, as the code takes it: the record and its order first, its number last.
-use Prim.Native.Nat.{ℕ}
-use mathlib.Core.Path.{◌≡◌, sym, ap, ◌∙◌}
+use Prim.Native.Nat.{ℕ, ◌<◌}
+use mathlib.Core.Path.{◌≡◌, refl, sym, ap, ◌∙◌}
 use mathlib.Core.Bool.{Bool, true, false, not}
 use mathlib.Core.List.{List}
-use lib.Dec.{leb, ltb}
-use borrow.Author.Tests.{lt-ltb, le-ltb, not-true, not-false}
+use borrow.Author.Tests.{not-true, not-false}
+use Rattle.std.specs.Prelude.{Option, is_some, unwrap_or, IfSome}
 use Rattle.slices.specs.Choices.{both}
-use Rattle.hypervolume.proofs.Tests.{Compared, below, above, compared}
 use Rattle.slices.proofs.Choices.{both_assoc}
 use Rattle.words.specs.Archive.{Row, Shape}
 use Rattle.words.specs.Format.{row_allowed}
 use Rattle.words.specs.Layout.{read_shape}
 use Rattle.words.specs.Places.{row_at, follows, repeated, stands, Found}
+use Rattle.words.proofs.Places.{found_some}
 
 -- The first of two tests decides, or leaves it to the second.
 pub first_failed : (b q s : Bool) → both b q ≡ s → not b ≡ true → false ≡ s
@@ -33,12 +33,12 @@ stands_test w i s r a f b shape row allowed order test =
 pub stands_unmet : (b h s : Bool) → both b (not h) ≡ s → not b ≡ false → h ≡ false → true ≡ s
 stands_unmet b h s e n clear = ap not (sym clear) ∙ first_passed b (not h) s e n
 
-pub stands_searched : (w : List ℕ) (i place : ℕ) (r : Row) (b s : Bool) → both b (not (repeated w i)) ≡ s
-    → not b ≡ false → r ≡ row_at w i → Found w i r.trial.number place → leb i place ≡ s
-stands_searched w i place r b s e n row f =
-    let searched : repeated w i ≡ ltb place i = rw row at f.holds in
-    none (leb i place) (compared i place) ∙ ap not (sym searched) ∙ first_passed _ _ s e n
+pub stands_searched : (w : List ℕ) (i : ℕ) (o : Option ℕ) (r : Row) (b t s : Bool) → both b (not (repeated w i)) ≡ s
+    → not b ≡ false → r ≡ row_at w i → Found w i r.trial.number (unwrap_or o i) → IfSome o (λ place. place < i) → is_some o ≡ not t → t ≡ s
+stands_searched w i o r b t s e n row f l none =
+    let searched : repeated w i ≡ is_some o = rw row at f.holds ∙ sym (found_some i o l) in
+    turned t ∙ ap not (sym (searched ∙ none)) ∙ first_passed _ _ s e n
   where
-    none : (t : Bool) → Compared i place t → t ≡ not (ltb place i)
-    none true (below l) = rw (le-ltb place i l)
-    none false (above l) = rw (lt-ltb place i l)
+    turned : (t : Bool) → t ≡ not (not t)
+    turned true = refl
+    turned false = refl

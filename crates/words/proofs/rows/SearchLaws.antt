@@ -2,6 +2,7 @@
 use Prim.Native.Nat.{ℕ, ◌+◌, ◌*◌, ◌≤◌, ◌<◌}
 use mathlib.Core.Path.{◌≡◌, sym, ap, ◌∙◌}
 use mathlib.Core.List.{List}
+use native.Mathlib.Nat.{le_refl}
 use native.Mathlib.Omega.{arith}
 use lib.ListN.{length, get_or, drop}
 use borrow.Author.Count.{below_more}
@@ -40,14 +41,14 @@ search_stop w n number i u l e =
       first = u.none;
     }
 
-pub search_end : (w : List ℕ) (n number i : ℕ) → Unfound w n number i → n ≤ i → Found w n number i
+pub search_end : (w : List ℕ) (n number i : ℕ) → Unfound w n number i → n ≤ i → Found w n number n
 search_end w n number i u l =
     let rows : List Row = rows_before w n in
     record {
-      inside = u.inside;
-      holds = held_nowhere number rows (row_at w i) (λ k k<n. absent k (omega (arith, length_read_rows n (drop 8 w)))) ∙ sym (le-ltb i n l);
-      there = λ i<n. absurd (let no : ⊥ = omega arith in no);
-      first = u.none;
+      inside = le_refl n;
+      holds = held_nowhere number rows (row_at w i) (λ k k<n. absent k (omega (arith, length_read_rows n (drop 8 w)))) ∙ sym (le-ltb n n (le_refl n));
+      there = λ n<n. absurd (let no : ⊥ = omega arith in no);
+      first = λ k k<n. u.none k (omega (arith, u.inside));
     }
   where
     absent : (k : ℕ) → k < n → (get_or (rows_before w n) k (row_at w i)).trial.number ≡ number → ⊥

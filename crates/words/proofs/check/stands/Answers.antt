@@ -19,4 +19,4 @@ returns-then-not-met c =
 
 pub returns : goal.returns
 returns c =
-    stands_searched _ _ _ _ _ _ (stands_test _ _ _ _ _ _ _ c.shape_of.ensures c.row_at-row.ensures c.row_allowed.ensures c.follows.ensures c.both.ensures) (ap not c.if-not-both.false) c.row_at-row.ensures c.search.ensures
+    stands_searched _ _ _ _ _ _ _ (stands_test _ _ _ _ _ _ _ c.shape_of.ensures c.row_at-row.ensures c.row_allowed.ensures c.follows.ensures c.both.ensures) (ap not c.if-not-both.false) c.row_at-row.ensures c.search.ensures.found c.search.ensures.within c.is_none.ensures

@@ -1,16 +1,15 @@
--- `search` meets its contract. The loop's invariant: no record before place i has the number. The measure is the number of
--- records left.
+-- `search` meets its contract. The loop's invariant: no record before place i has the number.
 use Rattle.words.proofs.rows.SearchLaws.{search_none, search_more, search_stop, search_end}
 use Rattle.words.proofs.rows.search.Goals as goal
 
 pub loop-i-init : goal.loop-i-init
 loop-i-init c = search_none _ _ _
 
-pub returns-then-w-i : goal.returns-then-w-i
-returns-then-w-i c = search_stop _ _ _ _ c.loop-i.invariant c.loop-i-test.true c.if-w-i.true
+pub returns-then-w-i-clause-found : goal.returns-then-w-i-clause-found
+returns-then-w-i-clause-found c = search_stop _ _ _ _ c.loop-i.invariant c.loop-i-test.true c.if-w-i.true
 
 pub loop-i-preserved : goal.loop-i-preserved
 loop-i-preserved c = search_more _ _ _ _ c.loop-i.invariant c.loop-i-test.true c.if-w-i.false
 
-pub returns : goal.returns
-returns c = search_end _ _ _ _ c.loop-i.invariant c.loop-i-test.false
+pub returns-clause-found : goal.returns-clause-found
+returns-clause-found c = search_end _ _ _ _ c.loop-i.invariant c.loop-i-test.false

@@ -1,0 +1,2 @@
+-- What the contracts of the table of refusals cite.
+pub mod Table
