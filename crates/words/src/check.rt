@@ -147,32 +147,28 @@ fn rows_allowed(w: &[u64]) -> bool
     let cells = box_of(reference_point(shape_of(w)));
     let n = w[0] as usize;
     let mut table = [0u64; 1024];
-    let mut i: usize = 0;
-    while i < n {
+    for i in 0..n {
         let met = mark(&mut table, w[8 + 5 * i]);
         if !stands(w, cells, i, met) {
             return false;
         }
-        i += 1;
     }
     true
 }
 
-// Whether the words from `from` on, up to `to`, are zero. No early end: most are.
-fn zeros(w: &[u64], from: usize, to: usize) -> bool
-    requires { (from ≤ to) × (to ≤ length w.now) }
-    ensures { result ≡ zeros (slice from to w.now) }
+// Whether these words are zero. No early end: most are.
+fn zeros(words: &[u64]) -> bool
+    ensures { result ≡ zeros words.now }
 {
     let mut any: u64 = 0;
-    let mut i = from;
-    while i < to {
-        any = any | w[i];
-        i += 1;
+    for word in words {
+        any = any | *word;
     }
     any == 0
 }
 
 // Row 3.
+#[tactic(auto, using(crate::proofs::Passed::header_facts))]
 fn records_allowed(w: &[u64]) -> bool
     requires { Headed w.now }
     ensures { result ≡ records_allowed w.now }
@@ -180,7 +176,7 @@ fn records_allowed(w: &[u64]) -> bool
     if !rows_allowed(w) {
         return false;
     }
-    zeros(w, 8 + 5 * w[0] as usize, 8 + 5 * w[1] as usize)
+    zeros(&w[8 + 5 * w[0] as usize..8 + 5 * w[1] as usize])
 }
 
 // Rows 1 to 3 for any words: the row that turns them down.

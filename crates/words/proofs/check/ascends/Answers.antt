@@ -1,10 +1,6 @@
 -- `ascends` meets its contract. The invariant: the numbers passed are equal, so those left decide.
-use borrow.Author.Rules.{rules}
-use Rattle.words.proofs.check.AscendsLaws.{level_none, level_less, level_more, level_same, level_end}
+use Rattle.words.proofs.check.AscendsLaws.{level_less, level_more, level_same, level_end}
 use Rattle.words.proofs.check.ascends.Goals as goal
-
-pub loop-i-init : goal.loop-i-init
-loop-i-init c = level_none 4 _ _ (search rules) (search rules)
 
 pub returns-then-a-i : goal.returns-then-a-i
 returns-then-a-i c = level_less c.loop-i.invariant c.loop-i-test.true c.if-a-i.true

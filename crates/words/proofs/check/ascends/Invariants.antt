@@ -1,10 +1,6 @@
 -- `ascends` meets its contract. The invariant: the numbers passed are equal, so those left decide.
-use Prim.Native.Nat.{◌-◌}
 use Rattle.words.proofs.check.AscendsLaws.{Level}
 use Rattle.words.proofs.check.ascends.Given as goal
 
 abbrev pub invariant-loop-i : goal.invariant-loop-i
 invariant-loop-i l = Level 4 l.a l.b l.i
-
-abbrev pub decreases-loop-i : goal.decreases-loop-i
-decreases-loop-i l = 4 - l.i

@@ -9,9 +9,6 @@ pub returns-then-not-shape_allowed : goal.returns-then-not-shape_allowed
 unfolding header_allowed both
 returns-then-not-shape_allowed c = rw (← c.shape_of-s.ensures, sym c.shape_allowed.ensures ∙ c.if-not-shape_allowed.true)
 
-pub reference_point-requires : goal.reference_point-requires
-reference_point-requires c = sym c.shape_allowed.ensures ∙ c.if-not-shape_allowed.false
-
 pub box_of-cells-requires : goal.box_of-cells-requires
 box_of-cells-requires c = reference_small _ _ (sym c.shape_allowed.ensures ∙ c.if-not-shape_allowed.false) c.reference_point.ensures
 

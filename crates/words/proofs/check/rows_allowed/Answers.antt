@@ -1,6 +1,6 @@
 -- `rows_allowed` meets its contract. The loop's invariant: the records before place i stand, and the table has their
 -- numbers. The measure is the number of records left.
-use mathlib.Core.Path.{◌∙◌, ap, refl, sym}
+use mathlib.Core.Path.{◌∙◌, ap, refl}
 use native.Mathlib.Omega.{arith}
 use Rattle.hypervolume.specs.Cells.{box}
 use Rattle.words.specs.Archive.{reference}
@@ -24,12 +24,6 @@ bounds-w-0 c = let facts = header_facts _ c.requires in omega arith
 
 pub loop-i-init : goal.loop-i-init
 loop-i-init c = checked_none _ _ _ c.requires (c.box_of-cells.ensures ∙ ap box (c.reference_point.ensures ∙ ap reference c.shape_of.ensures)) refl
-
-pub slice_bounds-mark-end : goal.slice_bounds-mark-end
-slice_bounds-mark-end c = sym c.loop-i.invariant.sized
-
-pub mark-met-requires : goal.mark-met-requires
-mark-met-requires c = c.loop-i.invariant.sized
 
 pub stands-requires : goal.stands-requires
 stands-requires c = checked_place _ _ _ _ _ c.loop-i.invariant c.loop-i-test.true c.mark-met.ensures.value

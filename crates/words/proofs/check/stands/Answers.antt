@@ -1,13 +1,8 @@
 -- `stands` meets its contract: the record and its order first, then its number, by the table's bit or by a search.
-use mathlib.Core.Path.{◌∙◌, ap, sym}
-use Rattle.hypervolume.specs.Cells.{box}
-use Rattle.words.specs.Archive.{reference}
+use mathlib.Core.Path.{ap}
 use Rattle.words.proofs.check.StandsLaws.{first_failed, stands_test, stands_unmet, stands_searched}
 use mathlib.Core.Bool.{not}
 use Rattle.words.proofs.check.stands.Goals as goal
-
-pub row_allowed-requires : goal.row_allowed-requires
-row_allowed-requires c = c.requires.boxed ∙ ap (λ s. box (reference s)) (sym c.shape_of.ensures)
 
 pub returns-then-not-both : goal.returns-then-not-both
 returns-then-not-both c =

@@ -1,13 +1,13 @@
 -- `record_at` meets its contract: each coordinate is at most the reference's, so it fits.
 use Prim.Native.Nat.{ℕ, ◌≤◌, ◌<◌}
-use mathlib.Core.Path.{◌≡◌, sym, ap, subst, ◌∙◌}
+use mathlib.Core.Path.{◌≡◌, sym, subst}
 use mathlib.Core.List.{List}
 use native.Mathlib.Omega.{arith}
 use lib.ListN.{get_or}
 use Rattle.words.specs.Archive.{Row, point}
 use Rattle.words.specs.Format.{archive_rows}
 use Rattle.words.specs.Layout.{word}
-use Rattle.words.specs.Places.{as_trial, row_at}
+use Rattle.words.specs.Places.{row_at}
 use Rattle.words.proofs.Passed.{passed}
 use Rattle.words.proofs.Places.{held_small}
 use Rattle.words.proofs.rows.record_at.Goals as goal
@@ -22,7 +22,3 @@ pub new-requires : goal.new-requires
 new-requires c =
     let small = small_axis _ _ _ c.requires.0 c.requires.1 c.row_at-row.ensures in
     (omega (arith, small 0), omega (arith, small 1), omega (arith, small 2))
-
-pub returns : goal.returns
-returns c =
-    ap (λ p. record { trial = as_trial c.row_at-row.result.number p; kept = c.row_at-row.result.kept }) c.new.ensures ∙ c.row_at-row.ensures

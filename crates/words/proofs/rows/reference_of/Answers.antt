@@ -1,7 +1,6 @@
 -- `reference_of` meets its contract: the reference of the shape that the header holds.
 use mathlib.Core.Path.{ap, ◌∙◌}
 use native.Mathlib.Omega.{arith}
-use Rattle.words.specs.Archive.{reference}
 use Rattle.words.specs.Format.{shape_allowed}
 use Rattle.words.proofs.Passed.{unrefused, header_facts}
 use Rattle.words.proofs.rows.reference_of.Goals as goal
@@ -11,6 +10,3 @@ shape_of-requires c = let facts = header_facts _ (unrefused _ _ c.requires).head
 
 pub reference_point-requires : goal.reference_point-requires
 reference_point-requires c = ap shape_allowed c.shape_of.ensures ∙ (header_facts _ (unrefused _ _ c.requires).headed).shaped
-
-pub returns : goal.returns
-returns c = c.reference_point.ensures ∙ ap reference c.shape_of.ensures

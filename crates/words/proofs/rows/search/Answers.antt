@@ -1,9 +1,6 @@
 -- `search` meets its contract. The loop's invariant: no record before place i has the number.
-use Rattle.words.proofs.rows.SearchLaws.{search_none, search_more, search_stop, search_end}
+use Rattle.words.proofs.rows.SearchLaws.{search_more, search_stop, search_end}
 use Rattle.words.proofs.rows.search.Goals as goal
-
-pub loop-i-init : goal.loop-i-init
-loop-i-init c = search_none _ _ _
 
 pub returns-then-w-i-clause-found : goal.returns-then-w-i-clause-found
 returns-then-w-i-clause-found c = search_stop _ _ _ _ c.loop-i.invariant c.loop-i-test.true c.if-w-i.true
