@@ -1,7 +1,7 @@
 -- Laws of both and either.
 use mathlib.Core.Path.{◌≡◌, refl}
 use mathlib.Core.Bool.{Bool, true, false, not, true≢false}
-use Rattle.slices.specs.Choices.{both, either, pick}
+use Rattle.slices.specs.Choices.{both, either}
 
 pub both_comm : (s t : Bool) → both s t ≡ both t s
 unfolding both

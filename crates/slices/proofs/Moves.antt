@@ -1,36 +1,12 @@
--- The loops of clear, move_down and move_up: what is written is known beforehand, and what is read is not written yet.
+-- The loops of move_down and move_up: what is written is known beforehand, and what is read is not written yet.
 use Prim.Native.Nat.{ℕ, ◌+◌, ◌-◌, ◌≤◌, ◌<◌}
 use mathlib.Core.Path.{◌≡◌, refl, sym, ◌∙◌}
 use mathlib.Core.List.{List}
 use native.Mathlib.Omega.{arith}
-use lib.ListN.{length, take, drop, set, get_or, replicate, get_or-replicate, length-drop, length-replicate}
+use lib.ListN.{length, take, drop, set, get_or, length-drop}
 use lib.Seq.{length-take-le, get_or-take, get_or-drop}
 use Rattle.slices.specs.Put.{put}
 use Rattle.slices.proofs.Loops.{Written, written_none, written_more, written_behind, written_end, Filled, filled_none, filled_more, filled_before, filled_end}
-
-pub record Clearing (old : List ℕ) (at n i : ℕ) (now : List ℕ) : Type 0 where
-  pub done : Written old at (replicate n 0) i now
-  pub part : i ≤ n
-  pub room : at + n ≤ length old
-  pub long : length now ≡ length old
-
-pub clearing_none : (old : List ℕ) (at n : ℕ) → at + n ≤ length old → Clearing old at n 0 old
-clearing_none old at n room =
-    record {
-      done = written_none old at (replicate n 0) (omega (arith, length-replicate {A = ℕ} n 0));
-      part = omega arith;
-      room = room;
-      long = refl;
-    }
-
-module _ {old : List ℕ} {at n i : ℕ} {now : List ℕ} (h : Clearing old at n i now) where
-  pub clearing_more : i < n → Clearing old at n (i + 1) (set now (at + i) 0)
-  clearing_more l =
-      let done : Written old at (replicate n 0) (i + 1) (set now (at + i) 0) = written_more h.done 0 (omega (arith, length-replicate {A = ℕ} n 0)) (sym (get_or-replicate n i 0 0 l)) in
-      record { done = done; part = omega arith; room = h.room; long = done.long }
-
-  pub clearing_end : n ≤ i → now ≡ put old at (replicate n 0)
-  clearing_end l = written_end h.done (omega (arith, length-replicate {A = ℕ} n 0))
 
 -- n words of the list from a place on, and one of them.
 module _ (old : List ℕ) (from n : ℕ) (room : from + n ≤ length old) where

@@ -5,6 +5,7 @@ use mathlib.Core.List.{List, ◌∷◌, ◌++◌, append_assoc, []}
 use native.Mathlib.Nat.{add-zero, zero-add}
 use native.Mathlib.Numerals.{add-one}
 use native.Mathlib.Omega.{arith}
+use borrow.Rule.Slice.PartMut.{put_mid}
 use lib.ListN.{length, take, drop, set, get_or, length-append, length-take, length-drop, take-append-drop, get_or-append}
 use lib.Seq.{take_all, take-nil, length-take-le, drop-cons, drop-drop, drop_at, take_at, take-take, set_at, set_split, get_or-take, get_or-drop, get_or-append-add, take-suc, append_snoc}
 use Rattle.slices.specs.Put.{put}
@@ -12,6 +13,11 @@ use Rattle.slices.specs.Put.{put}
 pub put_none : (l : List ℕ) (at : ℕ) → put l at [] ≡ l
 unfolding put
 put_none l at = rw add-zero (take-append-drop at l)
+
+-- What a part of the slice holds after a write to it, `new`, is put there.
+pub put_part : (l : List ℕ) (at n : ℕ) (now new : List ℕ) → now ≡ new → n ≡ length new → put_mid at n l now ≡ put l at new
+unfolding put
+put_part l at n now new e long = rw (e, long, drop-drop (length new) at l)
 
 -- A store is a word put.
 pub put_one : (l : List ℕ) (at v : ℕ) → at < length l → set l at v ≡ put l at (v ∷ [])

@@ -6,6 +6,7 @@ ghost use Rattle.slices.specs.Choices.{both};
 ghost use Rattle.slices.specs.Put.{put};
 
 // Both of two tests. As a call: `&&` would become a branch, also where nothing foretells it.
+#[tactic(auto, unfolding(crate::specs::Choices::both))]
 pub fn both(a: bool, b: bool) -> bool
     ensures { result ≡ both a b }
 {
@@ -17,11 +18,7 @@ pub fn clear(w: &mut [u64], at: usize, n: usize)
     requires { at + n ≤ length w.old }
     ensures { w.new ≡ put w.old at (replicate n 0) }
 {
-    let mut i = 0;
-    while i < n {
-        w[at + i] = 0;
-        i += 1;
-    }
+    w[at..at + n].fill(0);
 }
 
 // Copies all of `from` to `at` and behind it.
@@ -29,22 +26,16 @@ pub fn copy(from: &[u64], w: &mut [u64], at: usize)
     requires { at + length from.now ≤ length w.old }
     ensures { w.new ≡ put w.old at from.now }
 {
-    let mut i = 0;
-    while i < from.len() {
-        w[at + i] = from[i];
-        i += 1;
-    }
+    w[at..at + from.len()].copy_from_slice(from);
 }
 
-// Moves n words from `at` on `by` places up, the last one first.
+// Moves n words from `at` on `by` places up, the last one first. (A slice has no method that moves words within itself.)
 pub fn move_up(w: &mut [u64], at: usize, n: usize, by: usize)
     requires { at + n + by ≤ length w.old }
     ensures { w.new ≡ put w.old (at + by) (take n (drop at w.old)) }
 {
-    let mut left = n;
-    while 0 < left {
-        left -= 1;
-        w[at + by + left] = w[at + left];
+    for i in (0..n).rev() {
+        w[at + by + i] = w[at + i];
     }
 }
 
@@ -53,9 +44,7 @@ pub fn move_down(w: &mut [u64], at: usize, n: usize, by: usize)
     requires { at + n + by ≤ length w.old }
     ensures { w.new ≡ put w.old at (take n (drop (at + by) w.old)) }
 {
-    let mut i = 0;
-    while i < n {
+    for i in 0..n {
         w[at + i] = w[at + by + i];
-        i += 1;
     }
 }

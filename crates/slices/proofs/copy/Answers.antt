@@ -1,13 +1,7 @@
--- `copy` meets its contract.
-use mathlib.Core.Path.{refl}
-use Rattle.slices.proofs.Loops.{written_none, written_more, written_end}
+-- `copy` meets its contract: the part is the copy, and the words around it stay.
+use Rattle.std.proofs.Common.{arith}
+use Rattle.slices.proofs.Put.{put_part}
 use Rattle.slices.proofs.copy.Goals as goal
 
-pub loop-i-init : goal.loop-i-init
-loop-i-init c = written_none _ _ _ c.requires
-
-pub loop-i-preserved : goal.loop-i-preserved
-loop-i-preserved c = written_more c.loop-i.invariant _ c.loop-i-test.true refl
-
 pub returns : goal.returns
-returns c = written_end c.loop-i.invariant c.loop-i-test.false
+returns c = put_part c.args.w.now c.args.at _ _ _ c.copy_from_slice.ensures.after (omega arith)

@@ -1,10 +1,6 @@
 -- `move_down` meets its contract: a word is read before another is written over it.
-use Prim.Native.Nat.{◌-◌}
 use Rattle.slices.proofs.Moves.{Lowering}
 use Rattle.slices.proofs.move_down.Given as goal
 
 abbrev pub invariant-loop-i : goal.invariant-loop-i
 invariant-loop-i l = Lowering l.initial.w l.at l.n l.by l.i l.w
-
-abbrev pub decreases-loop-i : goal.decreases-loop-i
-decreases-loop-i l = l.n - l.i
