@@ -4,7 +4,7 @@ use Prim.Native.Nat.{ℕ, zero, suc, ◌+◌, ◌-◌, ◌*◌, ◌/◌, ◌%◌
 use mathlib.Core.Path.{◌≡◌, refl, sym, ap, ◌∙◌}
 use mathlib.Core.Bool.{Bool, true, false}
 use mathlib.Core.List.{List, ◌∷◌, []}
-use native.Mathlib.Nat.{one-mul, mul-one, mul_assoc, mul-le-mul, pow-suc, pow-le-pow_right}
+use native.Mathlib.Nat.{mul-one, mul_assoc, mul-le-mul, pow-suc, pow-le-pow_right}
 use native.Mathlib.Numerals.{add-one, one-add}
 use native.Mathlib.Omega.{arith}
 use lib.Dec.{leb, eqb, eqb-suc-suc}
@@ -97,10 +97,6 @@ pub record AxesCounted (n : ℕ) (p q : List ℕ) (axes axis : ℕ) : Type 0 whe
   pub so_far : axes + axes_within (drop axis p) (drop axis q) ≡ axes_within p q
   pub most : axes ≤ axis
 
-pub counted_none : (n : ℕ) (p q : List ℕ) → length p ≡ n → length q ≡ n → AxesCounted n p q 0 0
-counted_none n p q e f =
-    record { along = record { left = e; right = f; within = omega arith }; so_far = omega arith; most = omega arith }
-
 pub counted_more : {n : ℕ} {p q : List ℕ} {axes axis one : ℕ} → AxesCounted n p q axes axis → axis < n → one ≡ holds (leb (get_or p axis 0) (get_or q axis 0)) → AxesCounted n p q (axes + one) (axis + 1)
 unfolding axes_within
 counted_more {n} {p} {q} {axes} {axis} {one} h l e =
@@ -147,14 +143,6 @@ pub record Multiplied (n : ℕ) (r p : List ℕ) (product axis : ℕ) : Type 0 w
   pub along : Along n r p axis
   pub so_far : product * edges (drop axis r) (drop axis p) ≡ edges r p
   pub bound : product ≤ 1048576 ^ axis
-
-pub multiplied_none : (n : ℕ) (r p : List ℕ) → length r ≡ n → length p ≡ n → Multiplied n r p 1 0
-multiplied_none n r p e f =
-    record {
-      along = record { left = e; right = f; within = omega arith };
-      so_far = one-mul (edges r p);
-      bound = omega arith;
-    }
 
 pub multiplied_more : {n : ℕ} {r p : List ℕ} {product axis edge : ℕ} → Multiplied n r p product axis → axis < n → edge ≡ get_or r axis 0 - get_or p axis 0 → get_or r axis 0 ≤ 1048576 → Multiplied n r p (product * edge) (axis + 1)
 unfolding edges

@@ -78,7 +78,7 @@ impl Point {
     {
         let mut corner = self;
         for axis in 0..3usize {
-            corner.at[axis] = larger(corner.at[axis], other.at[axis]);
+            corner.at[axis] = corner.at[axis].max(other.at[axis]);
         }
         corner
     }
@@ -89,7 +89,7 @@ impl Point {
     {
         let mut axes: u32 = 0;
         for axis in 0..3usize {
-            axes = axes + at_most(self.at[axis], other.at[axis]);
+            axes += at_most(self.at[axis], other.at[axis]);
         }
         axes
     }
@@ -108,7 +108,7 @@ impl Point {
     {
         let mut product: u64 = 1;
         for axis in 0..3usize {
-            product = product * edge(reference.at[axis], self.at[axis]);
+            product *= edge(reference.at[axis], self.at[axis]);
         }
         product
     }

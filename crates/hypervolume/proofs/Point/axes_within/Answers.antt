@@ -1,11 +1,7 @@
 -- `Point::axes_within` meets its contract. The invariant: the axes counted so far, and those left.
 use native.Mathlib.Omega.{arith}
-use borrow.Author.Rules.{rules}
-use Rattle.hypervolume.proofs.Points.{counted_none, counted_more, counted_end}
+use Rattle.hypervolume.proofs.Points.{counted_more, counted_end}
 use Rattle.hypervolume.proofs.Point.axes_within.Goals as goal
-
-pub loop-axis-init : goal.loop-axis-init
-loop-axis-init c = counted_none 3 _ _ (search rules) (search rules)
 
 pub overflow_add-axes : goal.overflow_add-axes
 overflow_add-axes c =

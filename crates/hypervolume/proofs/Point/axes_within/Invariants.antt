@@ -1,10 +1,6 @@
 -- `Point::axes_within` meets its contract. The invariant: the axes counted so far, and those left.
-use Prim.Native.Nat.{◌-◌}
 use Rattle.hypervolume.proofs.Points.{AxesCounted}
 use Rattle.hypervolume.proofs.Point.axes_within.Given as goal
 
 abbrev pub invariant-loop-axis : goal.invariant-loop-axis
 invariant-loop-axis l = AxesCounted 3 l.self.at l.other.at l.axes l.axis
-
-abbrev pub decreases-loop-axis : goal.decreases-loop-axis
-decreases-loop-axis l = 3 - l.axis

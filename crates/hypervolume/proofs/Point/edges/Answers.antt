@@ -1,11 +1,7 @@
 -- `Point::edges` meets its contract. The invariant: the product so far times the edge product on the axes left is
 -- the edge product.
-use borrow.Author.Rules.{rules}
-use Rattle.hypervolume.proofs.Points.{multiplied_none, multiplied_more, multiplied_fits, multiplied_end}
+use Rattle.hypervolume.proofs.Points.{multiplied_more, multiplied_fits, multiplied_end}
 use Rattle.hypervolume.proofs.Point.edges.Goals as goal
-
-pub loop-axis-init : goal.loop-axis-init
-loop-axis-init c = multiplied_none 3 _ _ (search rules) (search rules)
 
 pub overflow_mul-product : goal.overflow_mul-product
 overflow_mul-product c =

@@ -7,7 +7,7 @@ pub loop-axis-init : goal.loop-axis-init
 loop-axis-init c = joined_none 3 _ _ (search rules) (search rules)
 
 pub loop-axis-preserved : goal.loop-axis-preserved
-loop-axis-preserved c = joined_more c.loop-axis.invariant c.loop-axis-test.true c.larger.ensures
+loop-axis-preserved c = joined_more c.loop-axis.invariant c.loop-axis-test.true c.max.ensures
 
 pub returns : goal.returns
 returns c = joined_end c.loop-axis.invariant c.loop-axis-test.false

@@ -1,10 +1,6 @@
 -- `Point::join` meets its contract. The invariant: the axes passed are those of the upper corner.
-use Prim.Native.Nat.{◌-◌}
 use Rattle.hypervolume.proofs.Points.{Joined}
 use Rattle.hypervolume.proofs.Point.join.Given as goal
 
 abbrev pub invariant-loop-axis : goal.invariant-loop-axis
 invariant-loop-axis l = Joined 3 l.initial.corner.at l.other.at l.corner.at l.axis
-
-abbrev pub decreases-loop-axis : goal.decreases-loop-axis
-decreases-loop-axis l = 3 - l.axis
