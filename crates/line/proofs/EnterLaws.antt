@@ -17,7 +17,7 @@ use Rattle.slices.proofs.Choices.{both_true, both_comm}
 use Rattle.line.specs.declared.column.Column.{Column}
 use Rattle.line.specs.Line.{tally, flagged, spot, x_of, y_of, index_of, over, over_by, low, Rising, FlagRight, Flagged, AlikeAt}
 use Rattle.line.specs.Column.{ColumnState}
-use Rattle.line.specs.Entries.{Below, ThinnedLine, ThinningLine, Walked, Closed, Entering, Entered}
+use Rattle.line.specs.Entries.{Below, ThinnedLine, Walked, Closed, Entering, Entered}
 use Rattle.slices.specs.Put.{put}
 use Rattle.line.proofs.PlaceLaws.{placed_front, placed_behind}
 use Rattle.line.proofs.Tally.{tally_append, tally_le, over_append, over_cons}
@@ -77,17 +77,6 @@ module _ {line : List ℕ} {m at next : ℕ} (asked : Entering line m at next) w
       let inside : k < at = omega (arith, front_long) in
       rw (get_or-take at line k 0 inside, ← (get_or-take m line k 0 (let u : k < m = omega (arith, at_within) in u)))
       (asked.ranked.before k inside)
-
-  pub entering_thinning : ThinningLine line m at next
-  entering_thinning =
-      record {
-        room = omega (arith, asked.room);
-        within = at_within;
-        valid = asked.valid;
-        beyond = λ k l n.
-            let after : x_of next < x_of (get_or (take m line) k 0) = asked.ranked.after k l (omega (arith, old_long)) in
-            rw (get_or-take m line k 0 n) at (let weak : x_of next ≤ x_of (get_or (take m line) k 0) = omega arith in weak);
-      }
 
   module _ {ry : ℕ} {column : Column} (state : ColumnState ry (take at line) column) {y : ℕ} (e : y ≡ y_of next) where
     -- Two entries cover the next point.

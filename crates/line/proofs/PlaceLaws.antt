@@ -9,7 +9,6 @@ use Rattle.slices.specs.Put.{put}
 use Rattle.slices.proofs.Put.{put_sooner, take_put_all, drop_put_all, drop_take}
 use Rattle.slices.proofs.Moves.{part_long}
 use Rattle.line.specs.Entries.{Closed}
-use Rattle.line.proofs.Entries.{take_drop}
 
 -- The entries from `at` on have moved up by one place, and v goes in before them.
 module _ (l : List ℕ) (m at v : ℕ) (within : at ≤ m) (room : m < length l) where
@@ -37,14 +36,7 @@ module _ (l : List ℕ) (m at v : ℕ) (within : at ≤ m) (room : m < length l)
       ∙ drop_put_all l at new (omega (arith, new_ends))
       ∙ ap (λ k. drop k l) new_ends
 
--- No gap, and a gap closed.
-pub closed_none : (l : List ℕ) (to from m : ℕ) → to ≡ from → from ≤ m → Closed l to from m l m
-closed_none l to from m e within =
-    record {
-      ends = omega arith;
-      joined = rw e (sym (take_drop from m l within));
-    }
-
+-- A gap closed.
 pub closed_some : (l : List ℕ) (to from m : ℕ) → to ≤ from → from ≤ m → m ≤ length l → {left : List ℕ} → left ≡ put l to (take (m - from) (drop (to + (from - to)) l))
     → Closed l to from m left (to + (m - from))
 closed_some l to from m gap within room e =

@@ -10,20 +10,10 @@ use lib.Dec.{leb}
 use lib.ListN.{length, get_or}
 use Rattle.hypervolume.specs.Cells.{holds}
 use Rattle.hypervolume.proofs.Tests.{Compared, below, above, compared}
-use Rattle.line.specs.Line.{x_of, Rising, Between, Ranked}
+use Rattle.line.specs.Line.{x_of, Between, Ranked}
 use Rattle.line.proofs.Rising.{rising_pair}
 
--- The search for the place of a point at x.
-pub between_all : (line : List ℕ) (x : ℕ) → Rising 0 line → Between line x 0 (length line)
-between_all line x h =
-    record {
-      rising = h;
-      within = omega arith;
-      before = λ k l. absurd (let no' : ⊥ = omega arith in no');
-      after = λ k l m. absurd (let no' : ⊥ = omega arith in no');
-    }
-
--- An entry that is at most x tells of those before it, one beyond x of those behind it.
+-- The search for the place of a point at x: an entry that is at most x tells of those before it, one beyond x of those behind it.
 module _ {line : List ℕ} {x low size : ℕ} (h : Between line x low size) where
   below_entry : (a : ℕ) → a < length line → x_of (get_or line a 0) ≤ x → (k : ℕ) → k ≤ a → x_of (get_or line k 0) ≤ x
   below_entry a l m k n = le_trans (rising_pair 0 line h.rising k a n l) m

@@ -12,6 +12,7 @@ pub struct Column {
 
 impl Column {
     // The column with one more point passed.
+    #[tactic(auto, unfolding(crate::specs::Column::column_with, slices::specs::Choices::pick))]
     pub fn with(self, y: u64, owner: usize) -> Column
         ensures { result ≡ column_with self y owner }
     {

@@ -1,7 +1,7 @@
 // The line: the points passed, in ascending x. Each is one word, an entry, that holds x, y, the point's index in the
-// list and a flag: 21 bits for a coordinate, 10 for the index, 1 for the flag. The flag is set where an entry before
-// it covers it; an entry without it has the least y so far. One that two others cover is left out: by law 6 it
-// no longer counts.
+// list and a flag: 21 bits for a coordinate, 10 for the index, 1 for the flag. (One word, and no struct: so say the contracts of
+// `entry`, `rank` and `enter`, and so the lines that callers lend are small.) The flag is set where an entry before it covers
+// it; an entry without it has the least y so far. One that two others cover is left out: by law 6 it no longer counts.
 #![tactic(auto)]
 
 ghost use Rattle.std.specs.Prelude.{◌≡◌, ℕ, ◌+◌, ◌-◌, ◌≤◌, ◌<◌, leb, ◌∷◌, length, take, drop};
@@ -55,6 +55,7 @@ pub fn set_flag(entry: u64) -> u64
 }
 
 // The entry, with its flag set where the test holds.
+#[tactic(auto, unfolding(slices::specs::Choices::pick))]
 fn flag_where(test: bool, entry: u64) -> u64
     ensures { result ≡ pick test (flagged entry) entry }
 {
@@ -77,7 +78,7 @@ struct Range {
 }
 
 // Searches the place of a point at x until at most two entries are left. Three are asked at a time, so that no answer waits
-// for another, and as much is left whatever they say.
+// for another, as each does in a slice's `partition_point`; and as much is left whatever they say.
 fn narrow(line: &[u64], x: u64) -> Range
     requires { Rising 0 line.now × (x ≤ 1048576) }
     ensures { Between line.now x result.low result.size × (result.size ≤ 2) }
@@ -126,8 +127,7 @@ fn thin(line: &mut [u64], m: usize, at: usize, next: u64) -> Gap
 {
     let y = y_of(next);
     let mut to = at;
-    let mut from = at;
-    while from < m {
+    for from in at..m {
         let entry = line[from];
         if y_of(entry) < y {
             if flag_of(entry) == 0 {
@@ -135,16 +135,12 @@ fn thin(line: &mut [u64], m: usize, at: usize, next: u64) -> Gap
             }
             line[to] = entry;
             to += 1;
-            from += 1;
         } else if flag_of(entry) == 0 {
             line[to] = set_flag(entry);
             to += 1;
-            from += 1;
-        } else {
-            from += 1;
         }
     }
-    Gap { to, from }
+    Gap { to, from: m }
 }
 
 // Moves the entries from `from` up to m down to `to`, and answers where they end.

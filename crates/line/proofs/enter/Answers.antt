@@ -1,13 +1,10 @@
 -- `enter` meets its contract.
 use mathlib.Core.Path.{refl}
-use Rattle.line.proofs.EnterLaws.{entering_thinning, entered_not, entered_more, entered_room}
+use Rattle.line.proofs.EnterLaws.{entered_not, entered_more, entered_room}
 use Rattle.line.proofs.enter.Goals as goal
 
 pub returns-then-column-y : goal.returns-then-column-y
 returns-then-column-y c = λ ry state. entered_not c.requires state c.y_of-y.ensures c.if-column-y.true
-
-pub thin-gap-requires : goal.thin-gap-requires
-thin-gap-requires c = entering_thinning c.requires
 
 pub returns-then-to-from : goal.returns-then-to-from
 returns-then-to-from c =

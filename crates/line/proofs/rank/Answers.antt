@@ -1,5 +1,4 @@
 -- `rank` meets its contract: the entries that are left say the rest.
-use mathlib.Core.Path.{◌≡◌}
 use native.Mathlib.Omega.{arith}
 use Rattle.hypervolume.proofs.Tests.{holds_small}
 use Rattle.line.proofs.RankLaws.{between_one, between_two, between_none}
@@ -19,9 +18,3 @@ overflow_add-result-then-range-eq1 c = record { fits = omega (arith, holds_small
 
 pub returns-then-range-eq1 : goal.returns-then-range-eq1
 returns-then-range-eq1 c = between_none (between_one c.narrow-range.ensures.0 c.if-range-eq1.true c.reaches-then-range-eq1.ensures) (omega arith)
-
-pub returns : goal.returns
-returns c =
-    let not-two : c.narrow-range.result.size ≡ 2 → ⊥ = c.if-range-eq2.false in
-    let not-one : c.narrow-range.result.size ≡ 1 → ⊥ = c.if-range-eq1.false in
-    between_none c.narrow-range.ensures.0 (omega (arith, c.narrow-range.ensures.1))
