@@ -61,8 +61,3 @@ module _ {ry : ℕ} {line : List ℕ} {column : Column} {k : ℕ} (h : Looked ry
             (λ j m. (flagged_at [] line h.flags (k - 1) (omega (arith, h.within))).clear clear j (omega arith)));
         owned = looked_more.owned;
       }
-
-pub looked_all : {ry : ℕ} {line : List ℕ} {column : Column} {k : ℕ} → Looked ry line column k → k ≤ 0 → Seen ry line column
-looked_all {ry} {line} {column} {k} h l =
-    let none : k ≡ 0 = omega arith in
-    record { state = rw none at h.state; owned = h.owned }

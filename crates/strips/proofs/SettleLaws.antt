@@ -1,10 +1,10 @@
 -- `settle`: the cells of a column that count for the next point are an interval of rows, and a strip of columns is settled by one
 -- product.
-use Prim.Native.Nat.{ℕ, ◌+◌, ◌-◌, ◌*◌, ◌≤◌, ◌<◌, max, ◌^◌}
-use mathlib.Core.Path.{◌≡◌, refl, sym}
+use Prim.Native.Nat.{ℕ, ◌+◌, ◌-◌, ◌*◌, ◌≤◌, ◌<◌, max}
+use mathlib.Core.Path.{◌≡◌, refl}
 use mathlib.Core.Bool.{Bool, true, false}
 use mathlib.Core.List.{List}
-use native.Mathlib.Nat.{zero-mul, mul-zero, sub-zero, mul-le-mul}
+use native.Mathlib.Nat.{mul-le-mul}
 use native.Mathlib.Decide.{dec_le}
 use native.Mathlib.Omega.{arith}
 use lib.Dec.{leb, eqb}
@@ -15,10 +15,8 @@ use Rattle.hypervolume.proofs.Sums.{sum_none, sum_steady}
 use Rattle.line.specs.declared.column.Column.{Column}
 use Rattle.line.specs.Line.{low, low_by}
 use Rattle.line.specs.Column.{ColumnState}
-use Rattle.strips.specs.Strips.{alone, shared, Settling, Settled}
+use Rattle.strips.specs.Strips.{alone, shared}
 use Rattle.line.proofs.Tally.{low_by_others}
-use lib.ListN.{get_or, set}
-use lib.Seq.{set-get_or}
 use Rattle.line.proofs.ColumnLaws.{state_some}
 
 -- A sum of ones over an interval of rows.
@@ -116,41 +114,3 @@ two_fit p q = mul-le-mul p q
 
 pub three_fit : {a b c : ℕ} → a ≤ 1048576 → b ≤ 1048576 → c ≤ 1048576 → a * (b * c) ≤ 1152921504606846976
 three_fit p q r = mul-le-mul p (two_fit q r)
-
--- A strip of no width.
-pub settled_none : (column : Column) (from to py height : ℕ) (out : List ℕ) → to ≤ from → Settled column from to py height out out 0
-settled_none column from to py height out l =
-    let none : to - from ≡ 0 = omega arith in
-    record {
-      gained = sym (rw none (zero-mul (alone column py)));
-      fallen =
-          sym
-          (rw (none, zero-mul (shared column py), mul-zero height, sub-zero (get_or out column.owner 0))
-          (set-get_or out column.owner 0));
-    }
-
--- A strip of some width: the products fit, the owner's contribution is large enough, and what is left.
-module _ {column : Column} {from to py height : ℕ} {out : List ℕ} (h : Settling column from to py height out) {s : ℕ} (e : s ≡ shared column py) where
-  depth_small : s ≤ 1048576
-  depth_small = rw e (omega arith)
-
-  width_small : to - from ≤ 1048576
-  width_small = omega arith
-
-  pub settling_area : (to - from) * s < 2 ^ 64
-  settling_area = omega (arith, two_fit width_small depth_small)
-
-  pub settling_volume : height * ((to - from) * s) < 2 ^ 64
-  settling_volume = omega (arith, three_fit h.height_small width_small depth_small)
-
-  pub settling_enough : height * ((to - from) * s) ≤ get_or out column.owner 0
-  settling_enough = rw e h.enough
-
-  module _ {a : ℕ} (f : a ≡ alone column py) where
-    pub settling_gain : (to - from) * a < 2 ^ 64
-    settling_gain =
-        let small : a ≤ 1048576 = rw f (omega arith) in
-        omega (arith, two_fit width_small small)
-
-    pub settled_some : Settled column from to py height out (set out column.owner (get_or out column.owner 0 - height * ((to - from) * s))) ((to - from) * a)
-    settled_some = record { gained = rw f; fallen = rw e }

@@ -7,19 +7,15 @@ ghost use Rattle.slices.specs.Choices.{both};
 ghost use Rattle.line.specs.Line.{y_of, flag_of, Flagged};
 ghost use Rattle.strips.specs.Strips.{Seen, Settling, Settled, Crossing, Crossed};
 
-use hypervolume::number::{larger, less, smaller};
 use line::column::Column;
 use line::{flag_of, index_of, x_of, y_of};
 
 // Whether no entry before this one changes the column.
+#[tactic(auto, unfolding(slices::specs::Choices::both))]
 fn decides(entry: u64, column: Column) -> bool
     ensures { result ≡ both (eqb (flag_of entry) 0) (leb column.second (y_of entry)) }
 {
-    if flag_of(entry) == 0 {
-        column.second <= y_of(entry)
-    } else {
-        false
-    }
+    flag_of(entry) == 0 && column.second <= y_of(entry)
 }
 
 // The column that these entries make, looked at from the last one back: an entry without the flag has the least y so far.
@@ -32,14 +28,12 @@ pub fn look_back(line: &[u64], ry: u64) -> Column
         owner: 0,
         second: ry,
     };
-    let mut k = line.len();
-    while 0 < k {
-        let entry = line[k - 1];
+    for k in (0..line.len()).rev() {
+        let entry = line[k];
         column = column.with(y_of(entry), index_of(entry));
         if decides(entry, column) {
             return column;
         }
-        k -= 1;
     }
     column
 }
@@ -54,10 +48,10 @@ fn settle(column: Column, from: u64, to: u64, py: u64, height: u64, out: &mut [u
         return 0;
     }
     let width = to - from;
-    let shared = less(column.second, larger(column.least, py));
+    let shared = column.second.saturating_sub(column.least.max(py));
     let owner = column.owner;
-    out[owner] = out[owner] - height * (width * shared);
-    width * less(column.least, py)
+    out[owner] -= height * (width * shared);
+    width * column.least.saturating_sub(py)
 }
 
 // The area that p alone dominates in a layer; from each contribution in `out` goes what p and that point alone dominate.
@@ -78,19 +72,17 @@ pub fn strips(
     ensures { Crossed line.now px py rx ry height out.old out.new result }
 {
     let mut column = first;
-    let mut at = smaller(px, rx);
+    let mut at = px.min(rx);
     let mut area: u64 = 0;
-    let mut k = start;
-    while k < line.len() {
+    for k in start..line.len() {
         if column.second <= py {
             return area;
         }
         let entry = line[k];
-        let next = smaller(x_of(entry), rx);
-        area = area + settle(column, at, next, py, height, out);
-        at = larger(at, next);
+        let next = x_of(entry).min(rx);
+        area += settle(column, at, next, py, height, out);
+        at = at.max(next);
         column = column.with(y_of(entry), index_of(entry));
-        k = k + 1;
     }
     area + settle(column, at, rx, py, height, out)
 }

@@ -1,6 +1,6 @@
 -- `look_back` meets its contract. The invariant: the column of the entries from k on.
 use mathlib.Core.Path.{sym, ◌∙◌}
-use Rattle.strips.proofs.LookBackLaws.{looked_none, looked_more, looked_stop, looked_all}
+use Rattle.strips.proofs.LookBackLaws.{looked_none, looked_more, looked_stop}
 use Rattle.strips.proofs.look_back.Goals as goal
 
 pub loop-k-init : goal.loop-k-init
@@ -14,6 +14,3 @@ returns-then-decides c =
 pub loop-k-preserved : goal.loop-k-preserved
 loop-k-preserved c =
     looked_more c.loop-k.invariant c.loop-k-test.true c.y_of.ensures c.index_of.ensures c.with-column.ensures
-
-pub returns : goal.returns
-returns c = looked_all c.loop-k.invariant c.loop-k-test.false

@@ -3,53 +3,46 @@
 use Prim.Native.Nat.{min}
 use mathlib.Core.Path.{◌≡◌, ap, ◌∙◌}
 use lib.ListN.{get_or}
-use borrow.Author.Count.{falls}
 use Rattle.line.specs.Line.{x_of}
 use Rattle.strips.proofs.StripsLaws.{swept_none, swept_more, swept_fits, swept_stop, turn_settling, turn_settled, end_settling, end_settled, end_crossed}
+use Rattle.strips.proofs.strips.Goals.{After-min-next}
 use Rattle.strips.proofs.strips.Goals as goal
 
+-- where the strip ends
+next_is : (c : After-min-next) → c.min-next.result ≡ min (x_of (get_or c.args.line.now c.loop-k.k 0)) c.args.rx
+next_is c = c.min-next.ensures ∙ ap (λ x. min x c.args.rx) c.x_of.ensures
+
 pub loop-k-init : goal.loop-k-init
-loop-k-init c = swept_none c.requires c.smaller-at.ensures
+loop-k-init c = swept_none c.requires c.min-at.ensures
 
 pub returns-then-column-py : goal.returns-then-column-py
 returns-then-column-py c = swept_stop c.loop-k.invariant c.if-column-py.true
 
 pub settle-area-requires : goal.settle-area-requires
 settle-area-requires c =
-    let next-is : c.smaller-next.result ≡ min (x_of (get_or c.args.line.now c.loop-k.k 0)) c.args.rx = c.smaller-next.ensures ∙ ap (λ x. min x c.args.rx) c.x_of.ensures in
-    turn_settling c.requires c.loop-k.invariant (next-is)
+    turn_settling c.requires c.loop-k.invariant (next_is (goal.at.settle-area-requires c).After-min-next)
 
 pub overflow_add-area : goal.overflow_add-area
 overflow_add-area c =
-    let next-is : c.smaller-next.result ≡ min (x_of (get_or c.args.line.now c.loop-k.k 0)) c.args.rx = c.smaller-next.ensures ∙ ap (λ x. min x c.args.rx) c.x_of.ensures in
     record {
-      fits = swept_fits c.requires (turn_settled c.requires c.loop-k.invariant (next-is) c.settle-area.ensures);
+      fits = swept_fits c.requires (turn_settled c.requires c.loop-k.invariant (next_is (goal.at.overflow_add-area c).After-min-next) c.settle-area.ensures);
     }
-
-pub loop-k-smaller : goal.loop-k-smaller
-loop-k-smaller c =
-    falls _ _ c.loop-k-test.true
 
 pub loop-k-preserved : goal.loop-k-preserved
 loop-k-preserved c =
-    let next-is : c.smaller-next.result ≡ min (x_of (get_or c.args.line.now c.loop-k.k 0)) c.args.rx = c.smaller-next.ensures ∙ ap (λ x. min x c.args.rx) c.x_of.ensures in
-    swept_more c.requires c.loop-k.invariant (next-is) c.settle-area.ensures
-    c.larger-at.ensures
+    swept_more c.requires c.loop-k.invariant (next_is (goal.at.loop-k-preserved c).After-min-next) c.settle-area.ensures
+    c.max-at.ensures
     c.y_of.ensures
     c.index_of.ensures
     c.with-column.ensures
     c.loop-k-test.true
 
 pub settle-requires : goal.settle-requires
-settle-requires c =
-    end_settling c.requires c.loop-k.invariant c.loop-k-test.false
+settle-requires c = end_settling c.requires c.loop-k.invariant c.loop-k-test.false
 
 pub overflow_add-result : goal.overflow_add-result
 overflow_add-result c =
-    record {
-      fits = swept_fits c.requires (end_settled c.requires c.loop-k.invariant c.loop-k-test.false c.settle.ensures);
-    }
+    record { fits = swept_fits c.requires (end_settled c.requires c.loop-k.invariant c.loop-k-test.false c.settle.ensures) }
 
 pub returns : goal.returns
-returns c =
-    end_crossed c.requires c.loop-k.invariant c.loop-k-test.false c.settle.ensures
+returns c = end_crossed c.requires c.loop-k.invariant c.loop-k-test.false c.settle.ensures
