@@ -6,7 +6,7 @@ ghost use Rattle.refusals.specs.Table.{outcome};
 ghost use Rattle.hypervolume.specs.Cells.{box};
 ghost use Rattle.words.specs.Archive.{reference, ascends};
 ghost use Rattle.words.specs.Layout.{read_shape, read};
-ghost use Rattle.words.specs.Format.{within, shape_allowed, number_allowed, coordinates_allowed, header_allowed, row_allowed, sound_rows, zeros, records_allowed, archive_rows};
+ghost use Rattle.words.specs.Format.{within, each, shape_allowed, number_allowed, coordinates_allowed, header_allowed, row_allowed, sound_rows, zeros, records_allowed, archive_rows};
 ghost use Rattle.words.specs.Places.{as_row, as_shape, follows, stands, AtPlace, Headed};
 ghost use Rattle.words.specs.Table.{marked, Marking};
 
@@ -15,26 +15,37 @@ use hypervolume::Point;
 use refusals::Refusal;
 use slices::both;
 
+#[tactic(auto, unfolding(crate::specs::Format::within))]
 pub fn within(low: u64, high: u64, n: u64) -> bool
     ensures { result ≡ within low high n }
 {
     both(low <= n, n <= high)
 }
 
+// Whether each of the numbers is from low to high. No early end: most are.
+pub fn each_within(low: u64, high: u64, numbers: &[u64]) -> bool
+    ensures { result ≡ each (within low high) numbers.now }
+{
+    let mut all = true;
+    for n in numbers {
+        all = both(all, within(low, high, *n));
+    }
+    all
+}
+
 // Row 4, and part of row 2.
+#[tactic(auto, unfolding(crate::specs::Format::shape_allowed))]
 pub fn shape_allowed(s: Shape) -> bool
     ensures { result ≡ shape_allowed (as_shape s) }
 {
     both(
         within(1, 512, s.capacity),
-        both(
-            within(1, 1048576, s.rx),
-            both(within(1, 1048576, s.ry), within(1, 1048576, s.rz)),
-        ),
+        each_within(1, 1048576, &[s.rx, s.ry, s.rz]),
     )
 }
 
 // Row 5, and part of row 3.
+#[tactic(auto, unfolding(crate::specs::Format::number_allowed))]
 pub fn number_allowed(n: u64) -> bool
     ensures { result ≡ number_allowed n }
 {
@@ -42,13 +53,11 @@ pub fn number_allowed(n: u64) -> bool
 }
 
 // Row 6, and part of row 3.
+#[tactic(auto, unfolding(crate::specs::Format::coordinates_allowed))]
 pub fn coordinates_allowed(row: Row) -> bool
     ensures { result ≡ coordinates_allowed (as_row row).trial }
 {
-    both(
-        within(0, 1048576, row.x),
-        both(within(0, 1048576, row.y), within(0, 1048576, row.z)),
-    )
+    each_within(0, 1048576, &[row.x, row.y, row.z])
 }
 
 // The box, at most 2^60 cells: the origin dominates them all.

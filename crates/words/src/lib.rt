@@ -6,7 +6,8 @@ mod header;
 mod rows;
 
 pub use check::{
-    ascends, box_of, coordinates_allowed, mark, number_allowed, refusal, shape_allowed, within,
+    ascends, box_of, coordinates_allowed, each_within, mark, number_allowed, refusal,
+    shape_allowed, within,
 };
 pub use header::put_header;
 pub use rows::{Record, Row, Shape, find, record_at, reference_of, search, shape_of};
