@@ -15,9 +15,9 @@ use Rattle.hypervolume.proofs.Last.{Under}
 use Rattle.line.specs.declared.column.Column.{Column}
 use Rattle.hypervolume.specs.Sorted.{Small}
 use Rattle.sweep.specs.Points.{Ready}
-use Rattle.line.specs.Line.{entry_of, x_of, index_of, flag_of, Rising, Flagged, Ranked}
+use Rattle.line.specs.Line.{entry_of, index_of, Rising, Flagged, Ranked}
 use Rattle.strips.specs.Strips.{shared_with, Seen, Crossing, Crossed}
-use Rattle.line.specs.Entries.{Entering, Entered}
+use Rattle.line.specs.Entries.{Entered}
 use Rattle.sweep.proofs.Coordinates.{three, ascending_at}
 use Rattle.sweep.proofs.Front.{getD_mapped, front_then}
 use Rattle.strips.proofs.SettleLaws.{three_fit}
@@ -101,9 +101,6 @@ module _ {ps : List (List ℕ)} {line₀ out : List ℕ} {rx ry rz i held volume
       (below_lift (length passed) (length left) (take held line) (omega (arith, passed_many, ready, h.alike)) h.lined.below)
       k
 
-  pub progress_index : i < 512
-  progress_index = omega (arith, ready.sorted.few)
-
   pub progress_rising : Rising 0 (take held line)
   progress_rising = h.lined.valid.rising
 
@@ -118,28 +115,10 @@ module _ {ps : List (List ℕ)} {line₀ out : List ℕ} {rx ry rz i held volume
     part : take at (take held line) ≡ take at line
     part = take-take at held line at_held
 
-    pub progress_at : at ≤ length line
-    progress_at = omega (arith, at_held, h.few, h.long, ready.sorted.few)
-
     pub progress_flags : Flagged [] (take at line)
     progress_flags =
         rw part at
         (flagged_front [] (take at (take held line)) (drop at (take held line)) (rw (take-append-drop at (take held line)) h.lined.valid.flags))
-
-    pub progress_entering : {next : ℕ} → next ≡ entry_of (get_or p 0 0) (get_or p 1 0) i → Entering line held at next
-    progress_entering {next} e =
-        record {
-          room = omega (arith, h.long, h.few, ready.line_room);
-          valid = h.lined.valid;
-          ranked = rw (e, first_of) ranked;
-          clear = rw e clear_of;
-        }
-      where
-        first_of : x_of (entry_of (get_or p 0 0) (get_or p 1 0) i) ≡ get_or p 0 0
-        first_of = omega (arith, progress_small 1, ready.sorted.few)
-
-        clear_of : flag_of (entry_of (get_or p 0 0) (get_or p 1 0) i) ≡ 0
-        clear_of = omega arith
 
   module _ {height : ℕ} (e : height ≡ rz - get_or p 2 0) where
     pub progress_crossing : {at : ℕ} {column : Column} → Ranked (take held line) (get_or p 0 0) at → Seen ry (take at line) column → Crossing (take held line) at column (get_or p 0 0) (get_or p 1 0) rx ry height left

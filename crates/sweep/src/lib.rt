@@ -22,8 +22,7 @@ pub fn sweep(points: &[[u32; 3]], reference: Point, line: &mut [u64], out: &mut 
     let rz = reference.at[2];
     let mut m: usize = 0;
     let mut volume: u64 = 0;
-    let mut i: usize = 0;
-    while i < points.len() {
+    for i in 0..points.len() {
         let p = hypervolume::point_at(points, i);
         let x = p.at[0] as u64;
         let y = p.at[1] as u64;
@@ -32,9 +31,8 @@ pub fn sweep(points: &[[u32; 3]], reference: Point, line: &mut [u64], out: &mut 
         let column = strips::look_back(&line[..at], ry);
         let own = height * strips::strips(&line[..m], at, column, x, y, rx, ry, height, out);
         out[i] = own;
-        volume = volume + own;
+        volume += own;
         m = line::enter(line, m, at, column, line::entry(x, y, i));
-        i = i + 1;
     }
     volume
 }
