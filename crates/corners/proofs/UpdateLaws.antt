@@ -18,7 +18,7 @@ use Rattle.hypervolume.proofs.Counting.{joint_corner, gain_edges, Twice}
 use Rattle.sweep.specs.Points.{Ready}
 use Rattle.sweep.proofs.Coordinates.{ascending_at}
 use Rattle.sweep.proofs.Front.{getD_mapped}
-use Rattle.corners.specs.Limits.{Limits, passing, Collecting, Collected}
+use Rattle.corners.specs.Limits.{Limits, passing, Collected}
 use Rattle.corners.specs.Updating.{Updating}
 use Rattle.corners.proofs.Passing.{passing_total, passing_contribution, failing_contribution, limit_twice}
 use Rattle.corners.proofs.limits.LimitsLaws.{join_at, join_length}
@@ -30,16 +30,6 @@ unfolding contributions joints
 corners_joints r u trials =
     map-map (λ t. contribution r (map (join u) trials) t) (join u) trials
     ∙ ap (λ f. map f trials) (fun_ext (λ t. sym (joint_corner r trials u t)))
-
--- What collecting the corners asks.
-pub updating_collecting : {points : List (List ℕ)} {u r : List ℕ} {corners : List (List ℕ)} {places line counts limit : List ℕ} → Updating points u r corners places line counts → Limits points u limit → Collecting points u limit corners places
-updating_collecting h e =
-    record {
-      sorted = h.ready.sorted;
-      above = e.above;
-      corners_room = h.corners_room;
-      places_room = h.places_room;
-    }
 
 -- All that is known once the corners have been collected.
 pub record Prepared (points : List (List ℕ)) (u r : List ℕ) (corners₀ : List (List ℕ)) (places₀ line counts limit : List ℕ) (corners : List (List ℕ)) (places : List ℕ) (m : ℕ) : Type 0 where

@@ -21,7 +21,8 @@ pub struct Updated {
 // places. A trial shares with u just what its upper corner with u dominates; of the edge product of u the gain is what
 // no corner dominates. Most corners lie beyond a limit, where two others dominate all that they do: these change no
 // count and have none, so only the rest is swept. Where two points are at most u on all axes, u changes no count at all.
-// What the caller lends may hold anything.
+// What the caller lends may hold anything. (Four slices, and no struct of them: so says the contract of `update`, and the caller
+// has them where it likes.)
 pub fn update(
     points: &[[u32; 3]],
     u: Point,

@@ -1,9 +1,9 @@
 // Which corners an update counts. A corner may be left out where two that stay are at most it on all axes, and on real
 // archives nearly all may: those beyond a limit on some axis.
-ghost use Rattle.std.specs.Prelude.{◌≡◌, true, ◌≤◌, ◌<◌, length, get_or};
+ghost use Rattle.std.specs.Prelude.{◌≡◌, true, ◌≤◌, ◌<◌, length, get_or, IfSome};
 ghost use Rattle.corners.specs.Limits.{offer, Offered, Limits, Collecting, Collected};
 
-use hypervolume::{Point, larger, point_at, put_point, smaller};
+use hypervolume::{Point, point_at, put_point};
 
 // The two least offers on each axis.
 #[derive(Clone, Copy)]
@@ -13,6 +13,7 @@ pub struct Offers {
 }
 
 // What t offers as the limit on an axis: its coordinate, where it is at most u on all others. 1,048,576 limits nothing.
+#[tactic(auto, unfolding(crate::specs::Limits::offer, slices::specs::Choices::pick))]
 fn offer(t: Point, u: Point, axis: usize) -> u32
     requires { axis < 3 }
     ensures { result ≡ offer t.at u.at axis }
@@ -35,8 +36,8 @@ impl Offers {
         let mut second = [0u32; 3];
         for axis in 0..3usize {
             let n = offer(t, u, axis);
-            least[axis] = smaller(self.least[axis], n);
-            second[axis] = smaller(self.second[axis], larger(self.least[axis], n));
+            least[axis] = self.least[axis].min(n);
+            second[axis] = self.second[axis].min(self.least[axis].max(n));
         }
         Offers { least, second }
     }
@@ -44,24 +45,22 @@ impl Offers {
 
 // The next place, from this one on, of a point that may lower a limit: it is within the limits so far, and at most u on two
 // axes, that is, it passes five of six tests (u is within the limits). The points ascend on z, so past the limit on z none
-// does, and the answer is the end. Every insertion and removal goes through the points here: so the loop stands apart from the
-// offers, with few numbers live, and asks by one sum, since a test for each half could not be foretold.
-fn seek(points: &[[u32; 3]], from: usize, u: Point, limit: Point) -> usize
+// does. Every insertion and removal goes through the points here: so the loop stands apart from the offers, with few numbers
+// live, and asks by one sum, since a test for each half could not be foretold.
+fn seek(points: &[[u32; 3]], from: usize, u: Point, limit: Point) -> Option<usize>
     requires { from ≤ length points.now }
-    ensures { (from ≤ result) × (result ≤ length points.now) }
+    ensures { IfSome result (λ i. (from ≤ i) × (i < length points.now)) }
 {
-    let mut i = from;
-    while i < points.len() {
+    for i in from..points.len() {
         let t = point_at(points, i);
         if limit.at[2] < t.at[2] {
-            return points.len();
+            return None;
         }
         if 5 <= t.axes_within(limit) + t.axes_within(u) {
-            return i;
+            return Some(i);
         }
-        i = i + 1;
     }
-    i
+    None
 }
 
 // Whether the limit on the first axis is u's own coordinate: then two of the points are at most u on all axes. (No point of a
@@ -69,10 +68,7 @@ fn seek(points: &[[u32; 3]], from: usize, u: Point, limit: Point) -> usize
 pub fn covered(u: Point, limit: Point) -> bool
     ensures { result ≡ true → (get_or limit.at 0 0 ≡ get_or u.at 0 0) × (get_or u.at 0 0 < 1048576) }
 {
-    if limit.at[0] == u.at[0] {
-        return u.at[0] < 1048576;
-    }
-    false
+    limit.at[0] == u.at[0] && u.at[0] < 1048576
 }
 
 // The limit on each axis: the second least coordinate of the corners that equal u on all others. Where two points are at most u
@@ -88,11 +84,7 @@ pub fn limits(points: &[[u32; 3]], u: Point) -> Point
         at: [1048576u32; 3],
     });
     let mut i: usize = 0;
-    while i < points.len() {
-        let next = seek(points, i, u, limit);
-        if next == points.len() {
-            return limit;
-        }
+    while let Some(next) = seek(points, i, u, limit) {
         offers = offers.with(point_at(points, next), u);
         let second = offers.second;
         limit = u.join(Point { at: second });
@@ -117,8 +109,7 @@ pub fn collect(
     ensures { Collected points.now u.at limit.at (length points.now) corners.new places.new result }
 {
     let mut m: usize = 0;
-    let mut i: usize = 0;
-    while i < points.len() {
+    for i in 0..points.len() {
         let t = point_at(points, i);
         if limit.at[2] < t.at[2] {
             return m;
@@ -126,10 +117,7 @@ pub fn collect(
         if t.dominates(limit) {
             put_point(corners, m, u.join(t));
             places[m] = i as u16;
-            m = m + 1;
-            i = i + 1;
-        } else {
-            i = i + 1;
+            m += 1;
         }
     }
     m

@@ -78,9 +78,6 @@ module _ {points : List (List ℕ)} {u limit : List ℕ} {corners₀ : List (Lis
   all_many : length all ≡ length points
   all_many = length-map points (join u)
 
-  pub gathering_end : length points ≤ i → Collected points u limit (length points) corners places m
-  gathering_end l = let whole : i ≡ length points = omega (arith, h.within) in rw whole at old
-
   -- The turn of the point p.
   module _ (l : i < length points) where
     abbrev p : List ℕ

@@ -55,9 +55,6 @@ offering_more {least₀} {second₀} {t} {u} {least} {second} {axis} {n} {low} {
           };
     }
 
-pub offering_end : {least₀ second₀ t u least second : List ℕ} {axis : ℕ} → Offering least₀ second₀ t u least second axis → 3 ≤ axis → Offered least₀ second₀ t u least second 3
-offering_end {axis = axis} h l = let last : axis ≡ 3 = omega (arith, h.within) in rw last at h.offered
-
 -- A limit that is raised loses no point.
 raised_dominates : (p u : List ℕ) (a m n : ℕ) → m ≤ n → dominates p (set u a m) ≡ true → dominates p (set u a n) ≡ true
 unfolding dominates
