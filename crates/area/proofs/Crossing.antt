@@ -172,13 +172,13 @@ module _ {line : List ℕ} {at top x y rx ry column from gain k : ℕ} (h : Walk
         let most : to * ry ≤ 1048576 * 1048576 = mul-le-mul wide h.asked.ry_small in
         omega (arith, strip)
 
-  pub walking_end : length line ≤ k → {all : ℕ} → all ≡ gain + (rx - from) * (column - y) → Crossed line at x y rx ry all k
+  pub walking_end : length line ≤ k → {all : ℕ} → all ≡ gain + (rx - from) * (column - y) → Crossed line at x y rx ry all (length line)
   walking_end l e =
       record {
         gains = e ∙ strip rx h.bound (omega arith) (λ a m n. absurd (let no' : ⊥ = omega arith in no')) ∙ all_columns line x y rx ry;
-        front = h.begun;
-        within = h.within;
-        covered = h.covered;
+        front = omega (arith, h.begun, h.within);
+        within = omega arith;
+        covered = λ a m n. h.covered a m (omega arith);
         stays = λ a m n. absurd (let no' : ⊥ = omega arith in no');
       }
 

@@ -156,14 +156,8 @@ gain_lined {ry} {passed} {line} l rx p =
 -- ---- one more point
 
 module _ {line : List ℕ} {m : ℕ} {p : List ℕ} {rx ry : ℕ} (h : Growing line m p rx ry) where
-  pub growing_rising : Rising 0 (take m line)
-  growing_rising = h.kept.rising
-
   long : length (take m line) ≡ m
   long = length-take-le m line (omega (arith, h.room))
-
-  pub growing_end : {end : ℕ} → end ≤ length (take m line) → end ≤ m
-  growing_end l = omega (arith, long)
 
   module _ {at : ℕ} (ranked : Ranked (take m line) (get_or p 0 0) at) where
     growing_held : at ≤ m
@@ -171,12 +165,6 @@ module _ {line : List ℕ} {m : ℕ} {p : List ℕ} {rx ry : ℕ} (h : Growing l
 
     part : take at (take m line) ≡ take at line
     part = take-take at m line growing_held
-
-    pub growing_at : at ≤ length line
-    growing_at = omega (arith, growing_held, h.room)
-
-    pub growing_falls : Falling (take at line)
-    growing_falls = rw part at (front_falls (take m line) at h.kept.falling)
 
     module _ {top : ℕ} (t : Topped ry (take at line) top) where
       -- A point that the entries before it cover.

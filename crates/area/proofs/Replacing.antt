@@ -4,7 +4,7 @@ use mathlib.Core.Path.{◌≡◌, ◌∙◌}
 use mathlib.Core.List.{List, ◌∷◌, ◌++◌}
 use native.Mathlib.Numerals.{add-one}
 use native.Mathlib.Omega.{arith}
-use lib.ListN.{length, take, drop, set, length-set}
+use lib.ListN.{length, take, drop, set}
 use lib.Seq.{append_snoc, take-suc-set, take-set-lt, drop-set-lt}
 use Rattle.slices.specs.Put.{put}
 use Rattle.line.specs.Entries.{Closed}
@@ -17,9 +17,6 @@ module _ (line : List ℕ) (m at end entry : ℕ) (front : at ≤ end) (within :
 
   -- the first of those that leave is overwritten, and the gap behind it closed
   module _ (some : at ≡ end → ⊥) where
-    pub closing : (at + 1 ≤ end) × (end ≤ m) × (m ≤ length (set line at entry))
-    closing = (omega arith, within, omega (arith, length-set line at entry))
-
     pub replaced_some : {left : List ℕ} {r : ℕ} → Closed (set line at entry) (at + 1) end m left r → (r ≤ m + 1) × (take r left ≡ take at line ++ (entry ∷ drop end (take m line)))
     replaced_some c = (
       omega (arith, c.ends),

@@ -6,7 +6,6 @@ ghost use Rattle.std.specs.Prelude.{◌≡◌, List, ◌∷◌, ◌++◌, ℕ, �
 ghost use Rattle.area.specs.Area.{Lined, Falling, Topped, Crossing, Crossed, Growing, Grew};
 
 use hypervolume::Point;
-use hypervolume::number::smaller;
 use line::{x_of, y_of};
 
 // The least y of these entries, or ry where that is lower or there is none.
@@ -14,11 +13,10 @@ fn top(line: &[u64], ry: u64) -> u64
     requires { Falling line.now }
     ensures { Topped ry line.now result }
 {
-    let n = line.len();
-    if n == 0 {
-        return ry;
+    match line.last() {
+        Some(&entry) => y_of(entry).min(ry),
+        None => ry,
     }
-    smaller(y_of(line[n - 1]), ry)
 }
 
 // The area that a point gains, and where the entries end that it covers.
@@ -35,23 +33,21 @@ fn cross(line: &[u64], at: usize, top: u64, x: u64, y: u64, rx: u64, ry: u64) ->
     ensures { Crossed line.now at x y rx ry result.gain result.end }
 {
     let mut column = top;
-    let mut from = smaller(x, rx);
+    let mut from = x.min(rx);
     let mut gain: u64 = 0;
-    let mut k = at;
-    while k < line.len() {
+    for k in at..line.len() {
         let entry = line[k];
-        let next = smaller(x_of(entry), rx);
-        gain = gain + (next - from) * (column - y);
+        let next = x_of(entry).min(rx);
+        gain += (next - from) * (column - y);
         if y_of(entry) < y {
             return Gained { gain, end: k };
         }
-        column = smaller(y_of(entry), ry);
+        column = y_of(entry).min(ry);
         from = next;
-        k += 1;
     }
     Gained {
         gain: gain + (rx - from) * (column - y),
-        end: k,
+        end: line.len(),
     }
 }
 
