@@ -10,6 +10,7 @@ use lib.Dec.{leb, ltb}
 use lib.ListN.{length, get_or, set, take, drop, replicate, length-set, length-append, length-drop, length-replicate, get_or-replicate, get_or-append}
 use lib.Seq.{get_or-set_same, get_or-set_other, take-suc, length-take-le, get_or-append-add}
 use borrow.Author.Tests.{lt-ltb, le-ltb, le-leb, lt-leb}
+use Rattle.std.specs.Int.{from_bool}
 use Rattle.slices.specs.Choices.{both, either, pick}
 use Rattle.slices.proofs.Spread.{zeros_at}
 use Rattle.hypervolume.specs.Cells.{holds}
@@ -258,6 +259,12 @@ pub counting_end : {points : List (List ℕ)} {keys : List ℕ} {i : ℕ} {high 
     → unbeaten ≡ alone points keys (length keys)
 counting_end {points} {keys} {i} h l = h.so_far ∙ ap (alone points keys) (let e : i ≡ length keys = omega (arith, h.part) in e)
 
+-- A test as the code counts it.
+pub counted : (t : Bool) → from_bool t ≡ holds t
+unfolding holds
+counted true = refl
+counted false = refl
+
 -- Levels as they are at first.
 pub empty_level : (n : ℕ) → Empty n (replicate n 2097152)
 empty_level n = record { long = length-replicate n 2097152; each = λ v l. get_or-replicate n v 2097152 0 l }
@@ -272,26 +279,9 @@ extra_table =
           (get_or-append-add (replicate 8 2097152) (replicate 7 0) (j - 8) 0 ∙ zeros_at 7 (j - 8));
     }
 
--- After v turns of `empty` v places are empty.
-pub record Emptying (before : List ℕ) (v : ℕ) (level : List ℕ) : Type 0 where
-  pub long : length level ≡ length before
-  pub done : (w : ℕ) → w < v → get_or level w 0 ≡ 2097152
-
-pub emptying_none : (level : List ℕ) → Emptying level 0 level
-emptying_none level = record { long = refl; done = λ w l. omega (arith, l) }
-
-module _ {before : List ℕ} {v : ℕ} {level : List ℕ} (e : Emptying before v level) where
-  pub emptying_more : v < length level → Emptying before (v + 1) (set level v 2097152)
-  emptying_more l =
-      record {
-        long = length-set level v 2097152 ∙ e.long;
-        done = λ w m. by_order v w
-            (λ a. by_order w v (λ b. subst (λ i. get_or (set level v 2097152) i 0 ≡ 2097152) (omega (arith, a, b)) (get_or-set_same level v 2097152 0 l)) (λ b. omega (arith, b, m)))
-            (λ a. get_or-set_other level v w 2097152 0 (λ q. omega (arith, q, a)) ∙ e.done w a);
-      }
-
-  pub emptying_end : length level ≤ v → Empty (length before) level
-  emptying_end l = record { long = e.long; each = λ w m. e.done w (omega (arith, m, l, e.long)) }
+-- Every place emptied.
+pub emptied : (level : List ℕ) (n : ℕ) → level ≡ replicate n 2097152 → Empty n level
+emptied level n e = subst (Empty n) (sym e) (empty_level n)
 
 -- A list whose first part was written over, then emptied.
 pub empty_over : (whole : List ℕ) (m : ℕ) (first level : List ℕ) → length whole ≡ 512 → m ≤ 512 → length first ≡ length (take m whole) → Empty (length (first ++ drop m whole)) level → Empty 512 level

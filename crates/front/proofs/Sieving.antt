@@ -15,19 +15,19 @@ use Rattle.hypervolume.proofs.Tests.{by_order}
 use Rattle.order.specs.Order.{some, Orderable, Ordered}
 use Rattle.front.specs.Keys.{x_at, y_at, standing, InOrder, first_at, key_at, over, Sieved, nothing, kept, left}
 use Rattle.front.specs.Levels.{Placed}
-use Rattle.front.specs.declared.Best.{Best}
+use Rattle.front.specs.declared.Seen.{Seen}
 use Rattle.order.proofs.Somes.{Found, found, some_at, some_append, some_ordered}
 use Rattle.front.proofs.Places.{over_is, first_low, first_rises, small_at, key_place, key_x, key_y}
 
 -- A key kept is the one of the best.
-pub record BestKept (points : List (List ℕ)) (best : Best) (keys : List ℕ) : Type 0 where
+pub record BestKept (points : List (List ℕ)) (best : Seen) (keys : List ℕ) : Type 0 where
   pub x_low : best.x ≤ 2097152
   pub y_low : best.y ≤ 2097152
   pub place : best.first < 512
   pub there : best.x < 2097152 → some (λ k. eqb k (best.x * 512 + best.first)) keys ≡ true
   pub y_is : best.x < 2097152 → y_at points best.first ≡ best.y
 
-pub record Sieving (points : List (List ℕ)) (size : ℕ) (best : Best) (stood first m i : ℕ) (keys : List ℕ) : Type 0 where
+pub record Sieving (points : List (List ℕ)) (size : ℕ) (best : Seen) (stood first m i : ℕ) (keys : List ℕ) : Type 0 where
   pub part : i ≤ length points
   pub few : m ≤ i
   pub room : length points ≤ size
@@ -60,7 +60,7 @@ sieving_none points keys l =
           };
     }
 
-module _ {points : List (List ℕ)} {size : ℕ} {best : Best} {stood first m i : ℕ} {keys : List ℕ} (h : Sieving points size best stood first m i keys) (o : InOrder points) (l : i < length points) where
+module _ {points : List (List ℕ)} {size : ℕ} {best : Seen} {stood first m i : ℕ} {keys : List ℕ} (h : Sieving points size best stood first m i keys) (o : InOrder points) (l : i < length points) where
   -- Where the equals of the next point begin.
   pub begins : pick (eqb stood (standing points i)) first i ≡ first_at points i
   begins = go i refl
@@ -190,7 +190,7 @@ module _ {points : List (List ℕ)} {size : ℕ} {best : Best} {stood first m i 
     pub first_fits : f < 512
     first_fits = low f found_first
 
-pub sieving_end : {points : List (List ℕ)} {size : ℕ} {best : Best} {stood first m i : ℕ} {keys : List ℕ} → Sieving points size best stood first m i keys → length points ≤ i
+pub sieving_end : {points : List (List ℕ)} {size : ℕ} {best : Seen} {stood first m i : ℕ} {keys : List ℕ} → Sieving points size best stood first m i keys → length points ≤ i
     → (m ≤ length points) × Sieved points (length points) (take m keys)
 sieving_end {points} {size} {best} {stood} {first} {m} {i} {keys} h l =
     (omega (arith, h.few, h.part), subst (λ n. Sieved points n (take m keys)) (let e : i ≡ length points = omega (arith, h.part) in e) h.sieved)

@@ -7,22 +7,15 @@
 
 ghost use Rattle.std.specs.Prelude.{◌≡◌, ◌+◌, ◌*◌, ◌/◌, ◌%◌, ◌≤◌, ◌<◌, min, leb, ltb, eqb, length, take, get_or};
 ghost use Rattle.slices.specs.Choices.{both, pick};
+ghost use Rattle.hypervolume.specs.Cells.{holds};
 ghost use Rattle.hypervolume.specs.Front.{front};
 ghost use Rattle.hypervolume.specs.Sorted.{Small};
 ghost use Rattle.front.specs.Keys.{InOrder, standing, Sieved, alone};
 ghost use Rattle.front.specs.Levels.{Bounded, Extra, Lowered, Entered, Empty, Placed};
 
-use hypervolume::{Point, at_most, point_at, smaller};
+use hypervolume::{Point, point_at};
 use order::order;
 use slices::both;
-
-// One number of a level, with so much put on the y.
-fn lowered(old: u32, y: u32, extra: u32) -> u32
-    requires { (y ≤ 2097152) × (extra ≤ 2097152) }
-    ensures { result ≡ min (y + extra) old }
-{
-    smaller(y + extra, old)
-}
 
 // A point's y, entered at a place of a level: it counts for the places behind it among the same eight. For the others as much is
 // put on it as makes it count for nothing; a test for each place would take twice as long.
@@ -34,7 +27,7 @@ fn lower(level: &mut [u32], at: usize, y: u32, extra: &[u32])
     let from = 7 - at % 8;
     for k in 0..8usize {
         let v = start + k;
-        level[v] = lowered(level[v], y, extra[from + k]);
+        level[v] = (y + extra[from + k]).min(level[v]);
     }
 }
 
@@ -43,11 +36,11 @@ fn least(high: &[u32], middle: &[u32], low: &[u32], g: usize) -> u32
     requires { (length high.now ≡ 8) × (length middle.now ≡ 64) × (length low.now ≡ 512) × (g < 512) }
     ensures { result ≡ min (get_or high.now (g / 64) 0) (min (get_or middle.now (g / 8) 0) (get_or low.now g 0)) }
 {
-    smaller(high[g / 64], smaller(middle[g / 8], low[g]))
+    high[g / 64].min(middle[g / 8].min(low[g]))
 }
 
-// One point more, whose equals begin at place g: 1 where none taken before stands earlier and is at most it on y, else 0. Its y
-// is entered in the levels.
+// One point more, whose equals begin at place g: whether none taken before stands earlier and is at most it on y. Its y is
+// entered in the levels.
 fn enter(
     high: &mut [u32],
     middle: &mut [u32],
@@ -55,11 +48,11 @@ fn enter(
     g: usize,
     y: u32,
     extra: &[u32],
-) -> u64
+) -> bool
     requires { (length high.old ≡ 8) × (length middle.old ≡ 64) × (length low.old ≡ 512) × (g < 512) × Bounded high.old × Bounded middle.old × Bounded low.old × (y ≤ 2097152) × Extra extra.now }
-    ensures { Entered high.old middle.old low.old g y result high.new middle.new low.new }
+    ensures { Entered high.old middle.old low.old g y (holds result) high.new middle.new low.new }
 {
-    let alone = at_most(y + 1, least(high, middle, low, g)) as u64;
+    let alone = y < least(high, middle, low, g);
     lower(high, g / 64, y, extra);
     lower(middle, g / 8, y, extra);
     lower(low, g, y, extra);
@@ -80,22 +73,45 @@ fn count(
     ensures { result ≡ alone points.now keys.now (length keys.now) }
 {
     let mut unbeaten: u64 = 0;
-    let mut i = 0;
-    while i < keys.len() {
-        let g = (keys[i] % 512) as usize;
+    for key in keys {
+        let g = (*key % 512) as usize;
         let y = point_at(points, g).at[1];
-        unbeaten = unbeaten + enter(high, middle, low, g, y, extra);
-        i += 1;
+        let alone = enter(high, middle, low, g, y, extra);
+        unbeaten += u64::from(alone);
     }
     unbeaten
 }
 
-// Of the points so far the one with the least x + y, and the place where its equals begin. At first beyond all.
+// A point's x and y, and the place where its equals begin.
 #[derive(Clone, Copy)]
-struct Best {
+struct Seen {
     x: u32,
     y: u32,
     first: usize,
+}
+
+impl Seen {
+    // Whether this point beats another.
+    fn beats(self, other: Seen) -> bool
+        ensures { result ≡ both (ltb self.first other.first) (both (leb self.x other.x) (leb self.y other.y)) }
+    {
+        both(
+            self.first < other.first,
+            both(self.x <= other.x, self.y <= other.y),
+        )
+    }
+
+    // The one of the least x + y: another point, or this one where they are alike.
+    fn better(self, other: Seen) -> Seen
+        requires { (self.x ≤ 2097152) × (self.y ≤ 2097152) × (other.x ≤ 2097152) × (other.y ≤ 2097152) }
+        ensures { result ≡ pick (ltb (other.x + other.y) (self.x + self.y)) other self }
+    {
+        if other.x + other.y < self.x + self.y {
+            other
+        } else {
+            self
+        }
+    }
 }
 
 // z, then y, then x, as one number.
@@ -113,30 +129,13 @@ fn begin(before: u64, now: u64, first: usize, i: usize) -> usize
     if before == now { first } else { i }
 }
 
-// Whether the best so far beats a point.
-fn beaten(best: Best, x: u32, y: u32, first: usize) -> bool
-    ensures { result ≡ both (ltb best.first first) (both (leb best.x x) (leb best.y y)) }
-{
-    both(best.first < first, both(best.x <= x, best.y <= y))
-}
-
-// The better of the best so far and a point that is kept.
-fn better(best: Best, x: u32, y: u32, first: usize) -> Best
-    requires { (best.x ≤ 2097152) × (best.y ≤ 2097152) × (x ≤ 2097152) × (y ≤ 2097152) }
-    ensures { result ≡ pick (ltb (x + y) (best.x + best.y)) (record { x = x; y = y; first = first }) best }
-{
-    if x + y < best.x + best.y {
-        return Best { x, y, first };
-    }
-    best
-}
-
 // The keys of the points, without those that the best before them beats. Answers how many there are.
 fn sieve(points: &[[u32; 3]], keys: &mut [u32]) -> usize
     requires { InOrder points.now × (length points.now ≤ length keys.old) }
     ensures { (result ≤ length points.now) × Sieved points.now (length points.now) (take result keys.new) }
 {
-    let mut best = Best {
+    // Beyond all coordinates and beyond every standing: what no point has. An Option would be one more test for each point.
+    let mut best = Seen {
         x: 2097152,
         y: 2097152,
         first: 0,
@@ -144,35 +143,24 @@ fn sieve(points: &[[u32; 3]], keys: &mut [u32]) -> usize
     let mut stood: u64 = 9223372036854775808;
     let mut first: usize = 0;
     let mut m: usize = 0;
-    let mut i: usize = 0;
-    while i < points.len() {
+    for i in 0..points.len() {
         let p = point_at(points, i);
         let now = standing(p);
         first = begin(stood, now, first, i);
         stood = now;
-        let x = p.at[0];
-        let y = p.at[1];
-        if beaten(best, x, y, first) {
-            i += 1;
-        } else {
-            keys[m] = x * 512 + first as u32;
-            m += 1;
-            best = better(best, x, y, first);
-            i += 1;
+        let seen = Seen {
+            x: p.at[0],
+            y: p.at[1],
+            first,
+        };
+        if best.beats(seen) {
+            continue;
         }
+        keys[m] = seen.x * 512 + first as u32;
+        m += 1;
+        best = best.better(seen);
     }
     m
-}
-
-// All places of a level emptied.
-fn empty(level: &mut [u32])
-    ensures { Empty (length level.old) level.new }
-{
-    let mut v = 0;
-    while v < level.len() {
-        level[v] = 2097152;
-        v += 1;
-    }
 }
 
 // The first m keys put in order and counted. Behind that the words of `keys` serve as the lowest level.
@@ -181,7 +169,7 @@ fn by_keys(points: &[[u32; 3]], keys: &mut [u32], ascending: &mut [u32], m: usiz
     ensures { result ≡ front points.now }
 {
     order(&mut keys[..m], ascending);
-    empty(keys);
+    keys.fill(2097152);
     let mut high = [2097152u32; 8];
     let mut middle = [2097152u32; 64];
     let extra = [

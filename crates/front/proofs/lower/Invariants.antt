@@ -1,10 +1,6 @@
 -- `lower` meets its contract: after k turns k of the eight places are done.
-use Prim.Native.Nat.{◌-◌}
 use Rattle.front.proofs.Levels.{Lowering}
 use Rattle.front.proofs.lower.Given as goal
 
 abbrev pub invariant-loop-k : goal.invariant-loop-k
 invariant-loop-k l = Lowering l.initial.level l.at l.y l.k l.level
-
-abbrev pub decreases-loop-k : goal.decreases-loop-k
-decreases-loop-k l = 8 - l.k
