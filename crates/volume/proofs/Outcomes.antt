@@ -13,9 +13,7 @@ use Rattle.words.proofs.Passed.{each_bounds}
 use Rattle.order.specs.Keys.{Keyed, Few}
 use Rattle.doubles.specs.Doubles.{number_of}
 use Rattle.volume.specs.declared.Corner.{Corner}
-use Rattle.volume.specs.declared.Volume.{Volume}
-use Rattle.volume.specs.declared.Volume.TheVariants.{Cells, Refused}
-use Rattle.volume.specs.Volume.{corner, points_of, volume_rows, figure_of, figure, volume_or, volume}
+use Rattle.volume.specs.Volume.{Volume, Cells, Refused, corner, points_of, volume_rows, figure_of, figure, volume_or, volume}
 use Rattle.volume.specs.Layering.{Readable, Loaded}
 use Rattle.volume.proofs.Reading.{points_many}
 

@@ -8,21 +8,37 @@ use native.Mathlib.Omega.{arith}
 use lib.ListN.{length, take, get_or, set, length-set, length-take, get_or-eq_default}
 use lib.Seq.{get_or-take, get_or-set_same, get_or-set_other, length-take-le, ext_get_or}
 use lib.Ieee.{Float}
+use Rattle.std.specs.Prelude.{Option}
+use Rattle.hypervolume.specs.declared.Point.{Point}
+use lib.Dec.{leb}
+use borrow.Author.Tests.{lt-leb}
 use Rattle.slices.specs.Choices.{both}
 use Rattle.slices.proofs.Choices.{both_comm, both_intro}
 use Rattle.words.specs.Format.{within, each}
 use Rattle.words.proofs.Passed.{each_bounds, each_three}
 use Rattle.doubles.specs.Doubles.{number_of}
 use Rattle.volume.specs.Volume.{points_of}
-use Rattle.volume.specs.Layering.{Readable, Loaded}
+use Rattle.volume.specs.Layering.{Readable, ReadAs, Loaded}
+
+-- One number judged.
+pub none_within : (low : ℕ) → within low 1048576 1048577 ≡ false
+unfolding within both
+none_within low = both_comm (leb low 1048577) false
+
+pub under_within : (low n : ℕ) → n < low → within low 1048576 n ≡ false
+unfolding within both
+under_within low n l = rw (lt-leb low n l)
+
+-- One number of several that is not allowed.
+pub each_fails : (test : ℕ → Bool) (l : List ℕ) (i : ℕ) → i < length l → test (get_or l i 0) ≡ false → each test l ≡ false
+unfolding each both
+each_fails test [] i h e = absurd (let no' : ⊥ = omega arith in no')
+each_fails test (a ∷ l) zero h e = rw e
+each_fails test (a ∷ l) (suc i) h e = rw (each_fails test l i (omega arith) e) (both_comm (test a) false)
 
 -- A point of three numbers, each judged.
-pub allowed_is : (test : ℕ → Bool) (p : List ℕ) → length p ≡ 3 → both (test (get_or p 0 0)) (both (test (get_or p 1 0)) (test (get_or p 2 0))) ≡ each test p
-allowed_is test [] e = absurd (let no' : ⊥ = omega arith in no')
-allowed_is test (a ∷ []) e = absurd (let no' : ⊥ = omega arith in no')
-allowed_is test (a ∷ b ∷ []) e = absurd (let no' : ⊥ = omega arith in no')
-allowed_is test (a ∷ b ∷ c ∷ []) e = sym (each_three test a b c)
-allowed_is test (a ∷ b ∷ c ∷ d ∷ p) e = absurd (let no' : ⊥ = omega arith in no')
+pub three_allowed : (test : ℕ → Bool) (a b c : ℕ) → test a ≡ true → test b ≡ true → test c ≡ true → each test (a ∷ b ∷ c ∷ []) ≡ true
+three_allowed test a b c e f g = each_three test a b c ∙ both_intro _ _ e (both_intro _ _ f g)
 
 pub points_many : (ds : List Float) → length (points_of ds) ≡ length ds / 3
 unfolding points_of
@@ -42,6 +58,10 @@ points_at (x ∷ y ∷ z ∷ ds) (suc i) d l =
     let second : 3 * suc i + 1 ≡ suc (suc (suc (3 * i + 1))) = omega arith in
     let third : 3 * suc i + 2 ≡ suc (suc (suc (3 * i + 2))) = omega arith in
     rw (second, third, first) (points_at ds i d (omega arith))
+
+-- Read as other numbers that are the same.
+pub read_as : (low : ℕ) (p : Option Point) (numbers others : List ℕ) → others ≡ numbers → ReadAs low numbers p → ReadAs low others p
+read_as low p numbers others e r = rw e r
 
 -- Whether every number of every point passes a test.
 unfoldable pub all_of : (ℕ → Bool) → List (List ℕ) → Bool

@@ -1,7 +1,9 @@
 -- How the figure is worked out, for the contracts of the inner functions: doubles that can be read, the points read and their keys,
 -- and one level after the other.
-use Rattle.std.specs.Prelude.{ℕ, ◌-◌, ◌/◌, ◌%◌, ◌≤◌, min, ◌≡◌, List, ltb, length, take, get_or, Float}
+use Rattle.std.specs.Prelude.{ℕ, ◌-◌, ◌/◌, ◌%◌, ◌≤◌, min, ◌≡◌, true, false, List, ltb, length, take, get_or, Float, Option, None, Some}
 use Rattle.slices.specs.Choices.{pick}
+use Rattle.hypervolume.specs.declared.Point.{Point}
+use Rattle.words.specs.Format.{within, each}
 use Rattle.order.specs.Keys.{Keyed, Few}
 use Rattle.doubles.specs.Doubles.{with_layer}
 use Rattle.volume.specs.Volume.{points_of}
@@ -24,3 +26,8 @@ level_at keys i rz = pick (ltb i (length keys)) (min (get_or keys i 0 / 512) rz)
 -- The sum with the layer from z up to the next level, if that is another one.
 unfoldable pub layer_or : Float → (area z next : ℕ) → Float
 layer_or sum area z next = pick (ltb z next) (with_layer sum (record { area = area; height = next - z })) sum
+
+-- Numbers that doubles were read as: a point where each is from `low` to 1,048,576, and none where one is not.
+abbrev pub ReadAs : (low : ℕ) → List ℕ → Option Point → Type 0
+ReadAs low numbers None = each (within low 1048576) numbers ≡ false
+ReadAs low numbers (Some p) = (p.at ≡ numbers) × (each (within low 1048576) numbers ≡ true)

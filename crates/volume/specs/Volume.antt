@@ -1,12 +1,12 @@
 -- Volume in doubles (document 02, W-207).
-use Rattle.std.specs.Prelude.{ℕ, zero, suc, ◌/◌, ◌%◌, not, List, ◌∷◌, map, [], ltb, eqb, length, take, get_or, Float}
+use Rattle.std.specs.Prelude.{ℕ, zero, suc, ◌/◌, ◌%◌, not, List, ◌∷◌, map, [], ltb, eqb, length, take, get_or, Float, Result, Ok, Err}
 use Rattle.slices.specs.Choices.{both}
+use Rattle.refusals.specs.declared.Refusal.{Refusal}
+use Rattle.refusals.specs.Table.{number_of as number}
 use Rattle.words.specs.Format.{guard, within, each}
 use Rattle.layers.specs.Layers.{layers}
 use Rattle.doubles.specs.Doubles.{number_of, zero_double, sum_from}
 use Rattle.volume.specs.declared.Corner.{Corner}
-use Rattle.volume.specs.declared.Volume.{Volume}
-use Rattle.volume.specs.declared.Volume.TheVariants.{Cells, Refused}
 use Rattle.volume.specs.declared.VolumeAnswer.{VolumeAnswer}
 
 -- "The reference corner as three doubles", as numbers.
@@ -38,6 +38,10 @@ unfoldable pub figure : Corner → List Float → Float
 figure r ds = figure_of (corner r) (points_of ds)
 
 -- "The answer is a volume in double precision or a refusal."
+pub data Volume : Type 0 where
+  Cells : Float → Volume
+  Refused : ℕ → Volume
+
 unfoldable pub volume_or : (row : ℕ) → Float → Volume
 volume_or zero v = Cells v
 volume_or (suc row) v = Refused (suc row)
@@ -49,3 +53,8 @@ volume r ds = volume_or (volume_rows r ds) (figure r ds)
 unfoldable pub answer_of : Volume → VolumeAnswer
 answer_of (Cells v) = record { refusal = 0; volume = v }
 answer_of (Refused n) = record { refusal = n; volume = zero_double }
+
+-- What the code answers, as that.
+abbrev pub volume_of : Result Float Refusal → Volume
+volume_of (Ok v) = Cells v
+volume_of (Err refusal) = Refused (number refusal)

@@ -1,7 +1,5 @@
 -- `measure` meets its contract: rows 17, 20 and 19, then the figure.
-use mathlib.Core.Path.{◌≡◌, sym, ◌∙◌}
-use mathlib.Core.Bool.{true}
-use Rattle.words.specs.Format.{within, each}
+use mathlib.Core.Path.{refl}
 use Rattle.volume.proofs.Outcomes.{row_17, row_20, row_19, readable, measured, corner_small}
 use Rattle.volume.proofs.measure.Goals as goal
 
@@ -11,16 +9,13 @@ returns-then-points-ne0 c = row_17 _ _ c.if-points-ne0.true
 pub returns-then-points-gt512 : goal.returns-then-points-gt512
 returns-then-points-gt512 c = row_20 _ _ c.if-points-ne0.false c.if-points-gt512.true
 
-pub returns-then-not-allowed : goal.returns-then-not-allowed
-returns-then-not-allowed c =
-    row_19 _ _ c.if-points-ne0.false c.if-points-gt512.false c.read_three-corner.ensures (sym c.allowed.ensures ∙ c.if-not-allowed.true)
+pub returns-in_default : goal.returns-in_default
+returns-in_default c = row_19 _ _ c.if-points-ne0.false c.if-points-gt512.false refl c.in_default.ensures
 
 pub figure-requires : goal.figure-requires
 figure-requires c =
-    let judged : each (within 1 1048576) c.read_three-corner.result.at ≡ true = sym c.allowed.ensures ∙ c.if-not-allowed.false in
-    (readable c.args.reference _ c.if-points-ne0.false c.if-points-gt512.false, corner_small _ (judged))
+    (readable c.args.reference _ c.if-points-ne0.false c.if-points-gt512.false, corner_small _ (rw c.in-Some.ensures.0 c.in-Some.ensures.1))
 
 pub returns : goal.returns
 returns c =
-    let judged : each (within 1 1048576) c.read_three-corner.result.at ≡ true = sym c.allowed.ensures ∙ c.if-not-allowed.false in
-    measured _ _ c.if-points-ne0.false c.if-points-gt512.false c.read_three-corner.ensures (judged) c.figure.ensures
+    measured _ _ c.if-points-ne0.false c.if-points-gt512.false c.in-Some.ensures.0 (rw c.in-Some.ensures.0 c.in-Some.ensures.1) c.figure.ensures

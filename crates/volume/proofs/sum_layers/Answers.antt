@@ -1,22 +1,24 @@
 -- `sum_layers` meets its contract. The invariant: after i points, the area that they cover and the layers that are left.
-use Prim.Native.Nat.{◌+◌, ◌^◌, ◌≤◌, ◌<◌}
+use Prim.Native.Nat.{◌+◌, ◌^◌, ◌≤◌}
 use mathlib.Core.Path.{◌∙◌}
 use native.Mathlib.Omega.{arith}
 use lib.Ieee.{of_bits}
-use Rattle.volume.proofs.Levels.{layering_none, layering_index, layering_low, layering_place, layering_growing, layering_fits, next_most, layering_more, layering_end, figure_is}
+use Rattle.volume.proofs.Levels.{layering_none, layering_index, layering_place, layering_growing, layering_fits, next_most, layering_more, layering_end, figure_is}
 use borrow.Author.Rules.{rules}
+use Rattle.volume.proofs.sum_layers.Goals.{After-grow-grown}
 use Rattle.volume.proofs.sum_layers.Goals as goal
+
+-- The area stays below what a double holds exactly.
+fits : (c : After-grow-grown) → c.loop-z.area + c.grow-grown.result.gain ≤ 2 ^ 53
+fits c =
+    let pre = c.requires in
+    layering_fits pre.0 _ _ _ c.loop-z.invariant c.loop-z-test.true c.point_at-p.ensures (pre.1 0) (pre.1 1) (c.grow-grown.ensures _ c.loop-z.invariant.lined)
 
 pub loop-z-init : goal.loop-z-init
 unfolding of_bits
 loop-z-init c =
     let pre = c.requires in
     layering_none pre.0 _ _ _ _ _ pre.2 c.level_at-z.ensures
-
-pub offset_bounds-keys-i : goal.offset_bounds-keys-i
-offset_bounds-keys-i c =
-    let low : c.loop-z.i < 512 = layering_low c.requires.0 _ _ _ c.loop-z.invariant c.loop-z-test.true in
-    omega (arith, low)
 
 pub bounds-keys-i : goal.bounds-keys-i
 bounds-keys-i c =
@@ -33,21 +35,12 @@ grow-grown-requires c =
 
 pub overflow_add-area : goal.overflow_add-area
 overflow_add-area c =
-    let fits : c.loop-z.area + c.grow-grown.result.gain ≤ 2 ^ 53 = let pre = c.requires in
-    layering_fits pre.0 _ _ _ c.loop-z.invariant c.loop-z-test.true c.point_at-p.ensures (pre.1 0) (pre.1 1) (c.grow-grown.ensures _ c.loop-z.invariant.lined) in
-    omega (arith, fits)
-
-pub overflow_add-i : goal.overflow_add-i
-overflow_add-i c =
-    let low : c.loop-z.i < 512 = layering_low c.requires.0 _ _ _ c.loop-z.invariant c.loop-z-test.true in
-    omega (arith, low)
+    omega (arith, fits (goal.at.overflow_add-area c).After-grow-grown)
 
 pub add_level-sum-requires : goal.add_level-sum-requires
 add_level-sum-requires c =
-    let fits : c.loop-z.area + c.grow-grown.result.gain ≤ 2 ^ 53 = let pre = c.requires in
-    layering_fits pre.0 _ _ _ c.loop-z.invariant c.loop-z-test.true c.point_at-p.ensures (pre.1 0) (pre.1 1) (c.grow-grown.ensures _ c.loop-z.invariant.lined) in
     let pre = c.requires in
-    (fits, omega (arith, pre.1 2, next_most pre.0 _ _ _ c.loop-z.invariant c.loop-z-test.true c.point_at-p.ensures (pre.1 0) (pre.1 1) (c.grow-grown.ensures _ c.loop-z.invariant.lined) c.level_at-next.ensures))
+    (fits (goal.at.add_level-sum-requires c).After-grow-grown, omega (arith, pre.1 2, next_most pre.0 _ _ _ c.loop-z.invariant c.loop-z-test.true c.point_at-p.ensures (pre.1 0) (pre.1 1) (c.grow-grown.ensures _ c.loop-z.invariant.lined) c.level_at-next.ensures))
 
 pub loop-z-smaller : goal.loop-z-smaller
 loop-z-smaller c =
