@@ -2,3 +2,4 @@
 pub mod LoadedPoints
 pub mod CountedAmounts
 pub mod Arrays
+pub mod Finding

@@ -7,43 +7,41 @@ ghost use Rattle.words.specs.Places.{as_row, row_at};
 ghost use Rattle.calls.specs.Calls.{held_points, audited, joint_of};
 ghost use Rattle.records.specs.Columns.{place_but};
 ghost use Rattle.calls.specs.Lent.{least, share, joint, gain_answer, audit, trial_of};
+ghost use Rattle.calls.specs.Outcomes.{answer_of, verdict_of, least_answer_of};
 
 use crate::counts::{count_all, count_joints};
-use calls::{Answer, LeastAnswer};
+use calls::Least;
 use front::front;
 use hypervolume::Point;
 use records::{amount_at, least_place, load_points, rule_allowed, some_differs};
+use refusals::Refusal;
 use rounding::millionths;
 use words::{Row, box_of, coordinates_allowed, find, record_at, reference_of, refusal};
 
 // Row 18 where the tie rule is neither of the two, row 14 where no trial is held.
-fn least_in(w: &[u64], rule: u64) -> LeastAnswer
+fn least_in(w: &[u64], rule: u64) -> Result<Least, Refusal>
     requires { archive_rows w.now 0 ≡ 0 }
-    ensures { result ≡ least w.now rule }
+    ensures { least_answer_of result ≡ least w.now rule }
 {
     if !rule_allowed(rule) {
-        return LeastAnswer::refused(18);
+        return Err(Refusal::BadRule);
     }
     let n = w[0] as usize;
     if n == 0 {
-        return LeastAnswer::refused(14);
+        return Err(Refusal::NoneHeld);
     }
     let least = record_at(w, least_place(w, n, rule));
-    LeastAnswer {
-        refusal: 0,
+    Ok(Least {
         number: least.number,
         contribution: least.kept,
-    }
+    })
 }
 
 // Least (tie rule): number and kept contribution of the least contributor.
-pub fn least(w: &[u64], rule: u64) -> LeastAnswer
-    ensures { result ≡ least w.now rule }
+pub fn least(w: &[u64], rule: u64) -> Result<Least, Refusal>
+    ensures { least_answer_of result ≡ least w.now rule }
 {
-    let refused = refusal(w);
-    if refused != 0 {
-        return LeastAnswer::refused(refused);
-    }
+    refusal(w)?;
     least_in(w, rule)
 }
 
@@ -68,60 +66,47 @@ fn joint_at(w: &[u64], i: usize, k: usize) -> u64
 }
 
 // Rows 9 and 10.
-fn joint_in(w: &[u64], first: u64, second: u64) -> Answer
+fn joint_in(w: &[u64], first: u64, second: u64) -> Result<u64, Refusal>
     requires { archive_rows w.now 0 ≡ 0 }
-    ensures { result ≡ joint w.now first second }
+    ensures { answer_of result ≡ joint w.now first second }
 {
-    let n = w[0] as usize;
-    let i = find(w, first);
-    if n <= i {
-        return Answer::refused(9);
-    }
-    let k = find(w, second);
-    if n <= k {
-        return Answer::refused(9);
-    }
+    let i = find(w, first).ok_or(Refusal::NotHeld)?;
+    let k = find(w, second).ok_or(Refusal::NotHeld)?;
     if first == second {
-        return Answer::refused(10);
+        return Err(Refusal::SameNumber);
     }
-    Answer::done(joint_at(w, i, k))
+    Ok(joint_at(w, i, k))
 }
 
 // Joint (two numbers): cells that both trials dominate and no third does.
-pub fn joint(w: &[u64], first: u64, second: u64) -> Answer
-    ensures { result ≡ joint w.now first second }
+pub fn joint(w: &[u64], first: u64, second: u64) -> Result<u64, Refusal>
+    ensures { answer_of result ≡ joint w.now first second }
 {
-    let refused = refusal(w);
-    if refused != 0 {
-        return Answer::refused(refused);
-    }
+    refusal(w)?;
     joint_in(w, first, second)
 }
 
 // Row 6 where the point is not allowed.
-fn gain_in(w: &[u64], row: Row) -> Answer
+fn gain_in(w: &[u64], row: Row) -> Result<u64, Refusal>
     requires { archive_rows w.now 0 ≡ 0 }
-    ensures { result ≡ gain_answer w.now (as_row row).trial }
+    ensures { answer_of result ≡ gain_answer w.now (as_row row).trial }
 {
     if !coordinates_allowed(row) {
-        return Answer::refused(6);
+        return Err(Refusal::BadCoordinate);
     }
     let mut places = [0u16; 512];
     let mut counts = [0u64; 512];
     let n = w[0] as usize;
     let p = Point::new(row.x, row.y, row.z);
     let counted = count_joints(w, n, p, &mut places, &mut counts);
-    Answer::done(counted.gain)
+    Ok(counted.gain)
 }
 
 // Gain (point): cells that it dominates and no trial does.
-pub fn gain(w: &[u64], x: u64, y: u64, z: u64) -> Answer
-    ensures { result ≡ gain_answer w.now (trial_of 0 x y z) }
+pub fn gain(w: &[u64], x: u64, y: u64, z: u64) -> Result<u64, Refusal>
+    ensures { answer_of result ≡ gain_answer w.now (trial_of 0 x y z) }
 {
-    let refused = refusal(w);
-    if refused != 0 {
-        return Answer::refused(refused);
-    }
+    refusal(w)?;
     gain_in(
         w,
         Row {
@@ -134,21 +119,18 @@ pub fn gain(w: &[u64], x: u64, y: u64, z: u64) -> Answer
     )
 }
 
-fn share_in(w: &[u64]) -> Answer
+fn share_in(w: &[u64]) -> Result<u64, Refusal>
     requires { archive_rows w.now 0 ≡ 0 }
-    ensures { result ≡ share w.now }
+    ensures { answer_of result ≡ share w.now }
 {
-    Answer::done(millionths(w[5], box_of(reference_of(w))))
+    Ok(millionths(w[5], box_of(reference_of(w))))
 }
 
 // Share: the kept total in millionths of the box, rounded to the nearest and at a tie to the even number.
-pub fn share(w: &[u64]) -> Answer
-    ensures { result ≡ share w.now }
+pub fn share(w: &[u64]) -> Result<u64, Refusal>
+    ensures { answer_of result ≡ share w.now }
 {
-    let refused = refusal(w);
-    if refused != 0 {
-        return Answer::refused(refused);
-    }
+    refusal(w)?;
     share_in(w)
 }
 
@@ -178,16 +160,10 @@ pub fn audited(w: &[u64]) -> bool
     counts_agree(w, &points[..m])
 }
 
-// Audit: 1 for yes.
-pub fn audit(w: &[u64]) -> Answer
-    ensures { result ≡ audit w.now }
+// Audit: whether the counts agree.
+pub fn audit(w: &[u64]) -> Result<bool, Refusal>
+    ensures { verdict_of result ≡ audit w.now }
 {
-    let refused = refusal(w);
-    if refused != 0 {
-        return Answer::refused(refused);
-    }
-    if audited(w) {
-        return Answer::done(1);
-    }
-    Answer::done(0)
+    refusal(w)?;
+    Ok(audited(w))
 }

@@ -1,40 +1,60 @@
 -- `joint_in` meets its contract: rows 9 and 10, then the joint count of the trials at the places found.
 use mathlib.Core.Path.{sym, ap, ap₂, ◌∙◌}
-use native.Mathlib.Omega.{arith}
-use borrow.Author.Tests.{lt-ltb, le-ltb}
+use Rattle.refusals.specs.declared.Refusal.TheVariants.{NotHeld}
 use Rattle.words.specs.Layout.{read}
 use Rattle.words.specs.Places.{row_at}
-use Rattle.words.proofs.Places.{find_held}
 use Rattle.calls.specs.Calls.{joint_of}
 use Rattle.calls.specs.Lent.{joint}
 use Rattle.calls.proofs.Known.{known}
+use Rattle.std.proofs.lemmas.Result.{err_from_is_err_and}
+use Rattle.ask.proofs.Finding.{HeldAt, found_at, found_nowhere, none_refused}
 use Rattle.ask.proofs.questions.Asking.{answer_row, answer_value, joint_first_absent, joint_second_absent, joint_same_number, joint_passes}
+use Rattle.ask.proofs.questions.joint_in.Goals.{In_ok-i, In_ok-k}
 use Rattle.ask.proofs.questions.joint_in.Goals as goal
 
-pub bounds-w-0 : goal.bounds-w-0
-bounds-w-0 c = omega (arith, known c.args.w.now c.requires)
+first_held : (c : In_ok-i) → HeldAt c.args.w.now c.args.first c.in_ok-i.i
+first_held c = found_at _ _ _ _ c.find.ensures.found c.find.ensures.within c.in_ok-i.ensures.ok_part
 
-pub find-i-requires : goal.find-i-requires
-find-i-requires c = (known c.args.w.now c.requires).records_long
+second_held : (c : In_ok-k) → HeldAt c.args.w.now c.args.second c.in_ok-k.k
+second_held c = found_at _ _ _ _ c.find-2.ensures.found c.find-2.ensures.within c.in_ok-k.ensures.ok_part
 
-pub returns-then-n-i : goal.returns-then-n-i
+pub find-requires : goal.find-requires
+find-requires c = (known c.args.w.now c.requires).records_long
+
+pub find-requires-2 : goal.find-requires-2
+find-requires-2 c = (known c.args.w.now c.requires).records_long
+
+pub returns-in_err-i : goal.returns-in_err-i
 unfolding joint
-returns-then-n-i c = c.refused.ensures ∙ answer_row c.args.w.now 8 _ _ c.requires (joint_first_absent _ _ _ (find_held c.args.w.now _ _ c.find-i.ensures ∙ le-ltb _ _ c.if-n-i.true))
+returns-in_err-i c =
+    let p = err_from_is_err_and c.from_residual.result c.from_residual.ensures.1 in
+    rw (p.1, p.2, none_refused _ NotHeld _ c.in_err-i.ensures.value c.in_err-i.ensures.ok_part)
+    (answer_row c.args.w.now 8 _ _ c.requires (joint_first_absent _ _ _ (found_nowhere _ _ _ c.find.ensures.found c.in_err-i.ensures.ok_part)))
 
-pub find-k-requires : goal.find-k-requires
-find-k-requires c = (known c.args.w.now c.requires).records_long
-
-pub returns-then-n-k : goal.returns-then-n-k
+pub returns-in_err-k : goal.returns-in_err-k
 unfolding joint
-returns-then-n-k c = c.refused-then-n-k.ensures ∙ answer_row c.args.w.now 8 _ _ c.requires (joint_second_absent _ _ _ (find_held c.args.w.now _ _ c.find-i.ensures ∙ lt-ltb _ _ c.if-n-i.false) (find_held c.args.w.now _ _ c.find-k.ensures ∙ le-ltb _ _ c.if-n-k.true))
+returns-in_err-k c =
+    let p = err_from_is_err_and c.from_residual-in_err-k.result c.from_residual-in_err-k.ensures.1 in
+    rw (p.1, p.2, none_refused _ NotHeld _ c.in_err-k.ensures.value c.in_err-k.ensures.ok_part)
+    (answer_row c.args.w.now 8 _ _ c.requires (joint_second_absent _ _ _ (first_held (goal.at.returns-in_err-k c).In_ok-i).known (found_nowhere _ _ _ c.find-2.ensures.found c.in_err-k.ensures.ok_part)))
 
 pub returns-then-first-second : goal.returns-then-first-second
 unfolding joint
-returns-then-first-second c = c.refused-then-first-second.ensures ∙ answer_row c.args.w.now 9 _ _ c.requires (joint_same_number _ _ _ (find_held c.args.w.now _ _ c.find-i.ensures ∙ lt-ltb _ _ c.if-n-i.false) (find_held c.args.w.now _ _ c.find-k.ensures ∙ lt-ltb _ _ c.if-n-k.false) c.if-first-second.true)
+returns-then-first-second c =
+    let at = goal.at.returns-then-first-second c in
+    answer_row c.args.w.now 9 _ _ c.requires (joint_same_number _ _ _ (first_held at.In_ok-i).known (second_held at.In_ok-k).known c.if-first-second.true)
 
 pub joint_at-requires : goal.joint_at-requires
-joint_at-requires c = (c.requires, c.if-n-i.false, c.if-n-k.false, λ e. c.if-first-second.false (sym (c.find-i.ensures.there c.if-n-i.false) ∙ ap (λ k. (row_at c.args.w.now k).trial.number) e ∙ (c.find-k.ensures.there c.if-n-k.false)))
+joint_at-requires c =
+    let at = goal.at.joint_at-requires c in
+    let first = first_held at.In_ok-i in
+    let second = second_held at.In_ok-k in
+    (c.requires, first.inside, second.inside, λ e. c.if-first-second.false (sym first.there ∙ ap (λ k. (row_at c.args.w.now k).trial.number) e ∙ second.there))
 
 pub returns : goal.returns
 unfolding joint
-returns c = c.done.ensures ∙ answer_value c.args.w.now _ _ _ c.requires (joint_passes _ _ _ (find_held c.args.w.now _ _ c.find-i.ensures ∙ lt-ltb _ _ c.if-n-i.false) (find_held c.args.w.now _ _ c.find-k.ensures ∙ lt-ltb _ _ c.if-n-k.false) c.if-first-second.false) (c.joint_at.ensures ∙ ap₂ (joint_of (read c.args.w.now)) (c.find-i.ensures.there c.if-n-i.false) (c.find-k.ensures.there c.if-n-k.false))
+returns c =
+    let at = goal.at.returns c in
+    let first = first_held at.In_ok-i in
+    let second = second_held at.In_ok-k in
+    answer_value c.args.w.now _ _ _ c.requires (joint_passes _ _ _ first.known second.known c.if-first-second.false) (c.joint_at.ensures ∙ ap₂ (joint_of (read c.args.w.now)) first.there second.there)

@@ -27,4 +27,4 @@ pub millionths-requires : goal.millionths-requires
 millionths-requires c = share_asks c.args.w.now _ c.requires (boxed (goal.at.millionths-requires c).After-box_of)
 
 pub returns : goal.returns
-returns c = c.done.ensures ∙ share_value c.args.w.now _ _ c.requires (boxed (goal.at.returns c).After-box_of) c.millionths.ensures
+returns c = share_value c.args.w.now _ _ c.requires (boxed (goal.at.returns c).After-box_of) c.millionths.ensures
