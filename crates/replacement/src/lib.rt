@@ -9,12 +9,13 @@ ghost use Rattle.words.specs.Layout.{word};
 ghost use Rattle.words.specs.Format.{archive_rows};
 ghost use Rattle.words.specs.Places.{as_row, row_at};
 ghost use Rattle.calls.specs.Lent.{trial_of};
+ghost use Rattle.calls.specs.Outcomes.{change_of};
 ghost use Rattle.calls.specs.Replacement.{difference, replace_effect};
 ghost use Rattle.replacement.specs.Others.{gain_but};
 
 use ask::count_joints;
-use calls::Change;
 use hypervolume::Point;
+use refusals::Refusal;
 use words::{Row, coordinates_allowed, find, record_at, refusal};
 
 // The difference of two counts.
@@ -48,30 +49,23 @@ fn change_at(w: &[u64], i: usize, p: Point) -> i64
 }
 
 // Rows 9 and 6.
-fn replace_in(w: &[u64], number: u64, row: Row) -> Change
+fn replace_in(w: &[u64], number: u64, row: Row) -> Result<i64, Refusal>
     requires { archive_rows w.now 0 ≡ 0 }
-    ensures { result ≡ replace_effect w.now number (as_row row).trial }
+    ensures { change_of result ≡ replace_effect w.now number (as_row row).trial }
 {
-    let n = w[0] as usize;
-    let i = find(w, number);
-    if n <= i {
-        return Change::refused(9);
-    }
+    let i = find(w, number).ok_or(Refusal::NotHeld)?;
     if !coordinates_allowed(row) {
-        return Change::refused(6);
+        return Err(Refusal::BadCoordinate);
     }
     let p = Point::new(row.x, row.y, row.z);
-    Change::done(change_at(w, i, p))
+    Ok(change_at(w, i, p))
 }
 
 // Replace-effect (number, point): the total afterwards less the total before.
-pub fn replace_effect(w: &[u64], number: u64, x: u64, y: u64, z: u64) -> Change
-    ensures { result ≡ replace_effect w.now number (trial_of 0 x y z) }
+pub fn replace_effect(w: &[u64], number: u64, x: u64, y: u64, z: u64) -> Result<i64, Refusal>
+    ensures { change_of result ≡ replace_effect w.now number (trial_of 0 x y z) }
 {
-    let refused = refusal(w);
-    if refused != 0 {
-        return Change::refused(refused);
-    }
+    refusal(w)?;
     replace_in(
         w,
         number,

@@ -10,15 +10,18 @@ use Rattle.calls.specs.Replacement.{difference}
 use Rattle.replacement.specs.Others.{gain_but}
 use Rattle.replacement.proofs.Differences.{through}
 use Rattle.replacement.proofs.Places.{gain_few}
+use Rattle.replacement.proofs.change_at.Goals.{After-record_at-own}
 use Rattle.replacement.proofs.change_at.Goals as goal
+
+read_point : (c : After-record_at-own) → c.record_at-own.result.point.at ≡ point (row_at c.args.w.now c.args.i).trial
+read_point c = point_at c.args.w.now c.args.i c.record_at-own.result (search rules) c.record_at-own.ensures
 
 pub record_at-own-requires : goal.record_at-own-requires
 record_at-own-requires c = (c.requires.0, c.requires.1)
 
 pub gain_but-before-requires : goal.gain_but-before-requires
 gain_but-before-requires c =
-    let read-point : c.record_at-own.result.point.at ≡ point (row_at c.args.w.now c.args.i).trial = point_at c.args.w.now c.args.i c.record_at-own.result (search rules) c.record_at-own.ensures in
-    (c.requires.0, c.requires.1, subst (λ q. Small q) (sym (read-point)) (held_small c.args.w.now _ c.requires.0 c.requires.1))
+    (c.requires.0, c.requires.1, subst (λ q. Small q) (sym (read_point (goal.at.gain_but-before-requires c).After-record_at-own)) (held_small c.args.w.now _ c.requires.0 c.requires.1))
 
 pub difference-requires : goal.difference-requires
 difference-requires c =
@@ -28,7 +31,6 @@ difference-requires c =
 
 pub returns : goal.returns
 returns c =
-    let read-point : c.record_at-own.result.point.at ≡ point (row_at c.args.w.now c.args.i).trial = point_at c.args.w.now c.args.i c.record_at-own.result (search rules) c.record_at-own.ensures in
     through _ (gain_few c.args.w.now _ _ c.requires.0) _ (gain_few c.args.w.now _ _ c.requires.0) _
     (c.difference.ensures
-    ∙ ap₂ difference c.gain_but-after.ensures (c.gain_but-before.ensures ∙ ap (gain_but c.args.w.now c.args.i) (read-point)))
+    ∙ ap₂ difference c.gain_but-after.ensures (c.gain_but-before.ensures ∙ ap (gain_but c.args.w.now c.args.i) (read_point (goal.at.returns c).After-record_at-own)))

@@ -1,7 +1,7 @@
 -- `replace_effect` meets its contract: rows 1 to 3 refuse, or the inner function answers.
-use mathlib.Core.Path.{◌∙◌}
+use Rattle.std.proofs.lemmas.Result.{err_from_is_err_and}
 use Rattle.replacement.proofs.Places.{effect_turned}
 use Rattle.replacement.proofs.replace_effect.Goals as goal
 
-pub returns-then-refused-ne0 : goal.returns-then-refused-ne0
-returns-then-refused-ne0 c = c.refused.ensures ∙ effect_turned _ _ _ _ c.refusal-refused.ensures c.if-refused-ne0.true
+pub returns-in_err-refusal : goal.returns-in_err-refusal
+returns-in_err-refusal c = let p = err_from_is_err_and c.from_residual.result c.from_residual.ensures.1 in rw (p.1, p.2) (effect_turned _ _ _ _ c.in_err-refusal.ensures)

@@ -1,6 +1,5 @@
 -- `joint_in` meets its contract: rows 9 and 10, then the joint count of the trials at the places found.
 use mathlib.Core.Path.{sym, ap, ap₂, ◌∙◌}
-use Rattle.refusals.specs.declared.Refusal.TheVariants.{NotHeld}
 use Rattle.words.specs.Layout.{read}
 use Rattle.words.specs.Places.{row_at}
 use Rattle.calls.specs.Calls.{joint_of}
@@ -28,14 +27,14 @@ pub returns-in_err-i : goal.returns-in_err-i
 unfolding joint
 returns-in_err-i c =
     let p = err_from_is_err_and c.from_residual.result c.from_residual.ensures.1 in
-    rw (p.1, p.2, none_refused _ NotHeld _ c.in_err-i.ensures.value c.in_err-i.ensures.ok_part)
+    rw (p.1, p.2, none_refused _ _ _ c.in_err-i.ensures.value c.in_err-i.ensures.ok_part)
     (answer_row c.args.w.now 8 _ _ c.requires (joint_first_absent _ _ _ (found_nowhere _ _ _ c.find.ensures.found c.in_err-i.ensures.ok_part)))
 
 pub returns-in_err-k : goal.returns-in_err-k
 unfolding joint
 returns-in_err-k c =
     let p = err_from_is_err_and c.from_residual-in_err-k.result c.from_residual-in_err-k.ensures.1 in
-    rw (p.1, p.2, none_refused _ NotHeld _ c.in_err-k.ensures.value c.in_err-k.ensures.ok_part)
+    rw (p.1, p.2, none_refused _ _ _ c.in_err-k.ensures.value c.in_err-k.ensures.ok_part)
     (answer_row c.args.w.now 8 _ _ c.requires (joint_second_absent _ _ _ (first_held (goal.at.returns-in_err-k c).In_ok-i).known (found_nowhere _ _ _ c.find-2.ensures.found c.in_err-k.ensures.ok_part)))
 
 pub returns-then-first-second : goal.returns-then-first-second
