@@ -1,10 +1,12 @@
 -- The steps of an insertion: its counted amounts, what storing it asks, and what it leaves before its front is counted. Used by
 -- the contracts of the inner functions; no exported contract cites it.
-use Rattle.std.specs.Prelude.{ℕ, ◌+◌, ◌≤◌, ◌<◌, false, not, ◌≡◌, List, ◌++◌, ltb, take}
+use Rattle.std.specs.Prelude.{ℕ, ◌+◌, ◌≤◌, ◌<◌, false, ◌≡◌, List, ◌++◌, ltb, take, Result, IfOk}
+use Rattle.refusals.specs.declared.Refusal.{Refusal}
+use Rattle.refusals.specs.Table.{outcome}
 use Rattle.slices.specs.Amounts.{some_pair, Placed, amounts_at}
 use Rattle.words.specs.Archive.{Trial}
 use Rattle.words.specs.Layout.{layout, read, word, behind}
-use Rattle.words.specs.Format.{archive_rows}
+use Rattle.words.specs.Format.{guard, archive_rows}
 use Rattle.words.specs.Places.{rows_before}
 use Rattle.records.specs.declared.amounts.Moved.{Moved}
 use Rattle.calls.specs.Calls.{box_of, insert_gain, insert_overruns, insert_rows, inserted}
@@ -16,13 +18,6 @@ use Rattle.records.specs.Amounts.{shares}
 pub record InsertShares (w : List ℕ) (t : Trial) (places counts : List ℕ) : Type 0 where
   pub placed : Placed (word w 0) places counts
   pub shared : amounts_at (word w 0) places counts ≡ shares (read w) t (read w).rows
-
--- An insertion's amounts: the gain, whether row 13 lets it pass, and the joint counts.
-pub record InsertAmounts (w : List ℕ) (t : Trial) (places counts : List ℕ) (m : Moved) : Type 0 where
-  pub gained : m.amount ≡ insert_gain (read w) t
-  pub judged : m.fits ≡ not (insert_overruns (read w) t)
-  pub few : m.places ≤ 512
-  pub lowers : InsertShares w t (take m.places places) (take m.places counts)
 
 -- What storing an insertion asks.
 pub record InsertReady (w : List ℕ) (t : Trial) (gain : ℕ) (places counts : List ℕ) : Type 0 where
@@ -42,3 +37,14 @@ pub record Enters (w : List ℕ) (t : Trial) (r : ℕ) (left : List ℕ) : Type 
   pub judged : r ≡ insert_rows (read w) t
   pub done : r ≡ 0 → left ≡ entered w t
   pub refused : (r ≡ 0 → ⊥) → left ≡ w
+
+-- An insertion's amounts: the gain, and the joint counts.
+pub record InsertMoves (w : List ℕ) (t : Trial) (places counts : List ℕ) (m : Moved) : Type 0 where
+  pub gained : m.amount ≡ insert_gain (read w) t
+  pub few : m.places ≤ 512
+  pub lowers : InsertShares w t (take m.places places) (take m.places counts)
+
+-- What judging an insertion comes to: row 13, and where it lets pass the amounts.
+pub record InsertJudged (w : List ℕ) (t : Trial) (places counts : List ℕ) (r : Result Moved Refusal) : Type 0 where
+  pub row : outcome r ≡ guard (insert_overruns (read w) t) 13 0
+  pub amounts : IfOk r (InsertMoves w t places counts)

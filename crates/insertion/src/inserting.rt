@@ -3,6 +3,7 @@
 // front is counted after the last.
 ghost use Rattle.std.specs.Prelude.{◌≡◌, ℕ};
 ghost use Rattle.slices.specs.Choices.{pick};
+ghost use Rattle.refusals.specs.Table.{outcome};
 ghost use Rattle.hypervolume.specs.Sorted.{Small};
 ghost use Rattle.words.specs.Layout.{read};
 ghost use Rattle.words.specs.Format.{guard, archive_rows};
@@ -10,38 +11,38 @@ ghost use Rattle.words.specs.Places.{as_row, as_trial};
 ghost use Rattle.calls.specs.Calls.{admission_rows, insert_overruns};
 ghost use Rattle.calls.specs.Lent.{insert, trial_of};
 ghost use Rattle.ask.specs.RecordCounts.{Room};
-ghost use Rattle.insertion.specs.Inserting.{InsertAmounts, InsertReady, entered, Enters};
+ghost use Rattle.insertion.specs.Inserting.{InsertJudged, InsertReady, entered, Enters};
 
 use ask::count_joints_in;
 use hypervolume::Point;
 use records::{Moved, enough, enter_at, lower_at, rank, renew};
+use refusals::Refusal;
 use words::{
     Record, Row, box_of, coordinates_allowed, find, number_allowed, reference_of, refusal,
 };
 
 // Rows 5 to 8.
-fn admission(w: &[u64], row: Row) -> u64
+fn admission(w: &[u64], row: Row) -> Result<(), Refusal>
     requires { archive_rows w.now 0 ≡ 0 }
-    ensures { result ≡ admission_rows (read w.now) (as_row row).trial 0 }
+    ensures { outcome result ≡ admission_rows (read w.now) (as_row row).trial 0 }
 {
     if !number_allowed(row.number) {
-        return 5;
+        return Err(Refusal::BadNumber);
     }
     if !coordinates_allowed(row) {
-        return 6;
+        return Err(Refusal::BadCoordinate);
     }
-    let place = find(w, row.number);
-    if place < w[0] as usize {
-        return 7;
+    if find(w, row.number).is_some() {
+        return Err(Refusal::NumberHeld);
     }
     if w[0] == w[1] {
-        return 8;
+        return Err(Refusal::Full);
     }
-    0
+    Ok(())
 }
 
-// The gain of the new trial, and its joint counts with the records at the places that have one; whether total and
-// contributions, moved by these, stay from 0 to the box (row 13).
+// The gain of the new trial, and its joint counts with the records at the places that have one; or row 13, where total or
+// contributions, moved by these, do not stay from 0 to the box.
 fn judge(
     w: &[u64],
     p: Point,
@@ -50,26 +51,24 @@ fn judge(
     places: &mut [u16],
     line: &mut [u64],
     counts: &mut [u64],
-) -> Moved
+) -> Result<Moved, Refusal>
     requires { (archive_rows w.now 0 ≡ 0) × Small p.at × Room points.old corners.old places.old line.old counts.old }
-    ensures { (number : ℕ) → InsertAmounts w.now (as_trial number p.at) places.new counts.new result }
+    ensures { (number : ℕ) → InsertJudged w.now (as_trial number p.at) places.new counts.new result }
 {
     let n = w[0] as usize;
     let counted = count_joints_in(w, n, p, points, corners, places, line, counts);
     let m = counted.moved;
     if box_of(reference_of(w)) < w[5] + counted.gain {
-        return Moved {
-            amount: counted.gain,
-            places: m,
-            fits: false,
-        };
+        return Err(Refusal::Miscount);
     }
-    let fits = enough(w, n, &places[..m], &counts[..m]);
-    Moved {
+    if !enough(w, n, &places[..m], &counts[..m]) {
+        return Err(Refusal::Miscount);
+    }
+    Ok(Moved {
         amount: counted.gain,
         places: m,
-        fits,
-    }
+        fits: true,
+    })
 }
 
 // Writes the others' contributions, the new record, the count and the total. The front stays as it was.
@@ -101,22 +100,20 @@ fn put_in(
     places: &mut [u16],
     line: &mut [u64],
     counts: &mut [u64],
-) -> u64
+) -> Result<(), Refusal>
     requires { (archive_rows w.old 0 ≡ 0) × (admission_rows (read w.old) (as_trial number p.at) 0 ≡ 0) × Room points.old corners.old places.old line.old counts.old }
-    ensures answer { result ≡ guard (insert_overruns (read w.old) (as_trial number p.at)) 13 0 }
+    ensures answer { outcome result ≡ guard (insert_overruns (read w.old) (as_trial number p.at)) 13 0 }
     ensures words { w.new ≡ pick (insert_overruns (read w.old) (as_trial number p.at)) w.old (entered w.old (as_trial number p.at)) }
 {
-    let moved = judge(w, p, points, corners, places, line, counts);
-    if !moved.fits {
-        return 13;
-    }
+    let moved = judge(w, p, points, corners, places, line, counts)?;
     let m = moved.places;
     store(w, number, p, moved.amount, &places[..m], &counts[..m]);
-    0
+    Ok(())
 }
 
 // Rows 5 to 8 and 13, or the trial entered, with the front as it was. What it leaves passes rows 1 to 3 again. The other
 // slices are lent to count in: a row of insertions clears them once.
+// They are no struct of arrays: `enter` takes slices of any length that is enough, and may ask no more of its callers.
 pub fn enter(
     w: &mut [u64],
     row: Row,
@@ -125,22 +122,19 @@ pub fn enter(
     places: &mut [u16],
     line: &mut [u64],
     counts: &mut [u64],
-) -> u64
+) -> Result<(), Refusal>
     requires { (archive_rows w.old 0 ≡ 0) × Room points.old corners.old places.old line.old counts.old }
-    ensures { Enters w.old (as_row row).trial result w.new }
+    ensures { Enters w.old (as_row row).trial (outcome result) w.new }
 {
-    let turned_away = admission(w, row);
-    if turned_away != 0 {
-        return turned_away;
-    }
+    admission(w, row)?;
     let p = Point::new(row.x, row.y, row.z);
     put_in(w, row.number, p, points, corners, places, line, counts)
 }
 
 // The same in arrays of its own, which are gone when the front is counted.
-fn enter_alone(w: &mut [u64], row: Row) -> u64
+fn enter_alone(w: &mut [u64], row: Row) -> Result<(), Refusal>
     requires { archive_rows w.old 0 ≡ 0 }
-    ensures { Enters w.old (as_row row).trial result w.new }
+    ensures { Enters w.old (as_row row).trial (outcome result) w.new }
 {
     let mut points = [[0u32, 0, 0]; 512];
     let mut corners = [[0u32, 0, 0]; 512];
@@ -158,14 +152,11 @@ fn enter_alone(w: &mut [u64], row: Row) -> u64
     )
 }
 
-// Insert (number, point). Answers 0 when done.
-pub fn insert(w: &mut [u64], number: u64, x: u64, y: u64, z: u64) -> u64
-    ensures { (result ≡ (insert w.old (trial_of number x y z)).refusal) × (w.new ≡ (insert w.old (trial_of number x y z)).words) }
+// Insert (number, point).
+pub fn insert(w: &mut [u64], number: u64, x: u64, y: u64, z: u64) -> Result<(), Refusal>
+    ensures { (outcome result ≡ (insert w.old (trial_of number x y z)).refusal) × (w.new ≡ (insert w.old (trial_of number x y z)).words) }
 {
-    let refused = refusal(w);
-    if refused != 0 {
-        return refused;
-    }
+    refusal(w)?;
     let row = Row {
         number,
         x,
@@ -173,10 +164,7 @@ pub fn insert(w: &mut [u64], number: u64, x: u64, y: u64, z: u64) -> u64
         z,
         kept: 0,
     };
-    let turned = enter_alone(w, row);
-    if turned != 0 {
-        return turned;
-    }
+    enter_alone(w, row)?;
     renew(w);
-    0
+    Ok(())
 }

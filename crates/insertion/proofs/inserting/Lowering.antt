@@ -1,12 +1,14 @@
 -- The ways out of judging an insertion: row 13 by the total, or by a contribution, or neither.
 use Prim.Native.Nat.{ℕ, ◌+◌, ◌≤◌, ◌<◌}
 use mathlib.Core.Path.{◌≡◌, refl, sym, ap, subst, ◌∙◌}
-use mathlib.Core.Bool.{Bool, false, not}
+use mathlib.Core.Bool.{Bool, true, false, not}
 use mathlib.Core.List.{List}
 use native.Mathlib.Omega.{arith}
 use lib.Dec.{ltb}
-use borrow.Author.Tests.{lt-ltb, le-ltb}
+use borrow.Author.Tests.{lt-ltb, le-ltb, not-true, not-false}
 use lib.ListN.{length, take}
+use Rattle.std.specs.Prelude.{Ok, Err}
+use Rattle.refusals.specs.declared.Refusal.TheVariants.{Miscount}
 use Rattle.hypervolume.proofs.Counting.{gain_le_box}
 use Rattle.corners.specs.declared.Updated.{Updated}
 use Rattle.words.specs.Archive.{Trial, point}
@@ -19,8 +21,10 @@ use Rattle.calls.specs.Calls.{reference_of, held_points, box_of, insert_gain, fa
 use Rattle.records.specs.Columns.{column}
 use Rattle.ask.specs.RecordCounts.{CountedJoints}
 use Rattle.ask.proofs.CountedAmounts.{all_gain, all_shares, all_rows, counted_few, counted_placed}
-use Rattle.insertion.specs.Inserting.{InsertShares, InsertAmounts}
+use Rattle.insertion.specs.Inserting.{InsertShares, InsertJudged}
+use Rattle.calls.proofs.Answers.{guard_yes, guard_no}
 use Rattle.calls.proofs.Known.{known, count_rows}
+use Rattle.records.specs.declared.amounts.Moved.{Moved}
 use Rattle.records.proofs.MovedAmounts.{falls_below_pairs}
 
 -- What counting leaves, as the amounts of an insertion.
@@ -38,33 +42,37 @@ module _ {w : List ℕ} (t : Trial) {q places counts : List ℕ} {r : Updated} (
     gained : r.gain ≡ insert_gain (read w) t
     gained = all_gain t here c
 
-    pub judged_over : cells < word w 5 + r.gain → InsertAmounts w t places counts (record { amount = r.gain; places = r.moved; fits = false })
-    unfolding insert_overruns either not read
+    pub judged_over : cells < word w 5 + r.gain → InsertJudged w t places counts (Err Miscount)
+    unfolding insert_overruns either read
     judged_over k =
-        record {
-          gained = gained;
-          judged = sym (ap not (ap (λ x. either x (falls_below (read w) t (read w).rows)) (lt-ltb (box_of (read w)) (word w 5 + insert_gain (read w) t) (let s : box_of (read w) < word w 5 + insert_gain (read w) t = rw (← boxed, ← gained) k in s))));
-          few = counted_few p c;
-          lowers = counted_shares;
-        }
+        let over : insert_overruns (read w) t ≡ true =
+        ap (λ x. either x (falls_below (read w) t (read w).rows))
+        (lt-ltb (box_of (read w)) (word w 5 + insert_gain (read w) t) (let s : box_of (read w) < word w 5 + insert_gain (read w) t = rw (← boxed, ← gained) k in s)) in
+        record { row = sym (guard_yes _ 13 0 over); amounts = tt }
 
-    behind_box : word w 5 + r.gain ≤ cells → insert_overruns (read w) t ≡ falls_below (read w) t (read w).rows
+    behind_box : word w 5 + r.gain ≤ cells → insert_overruns (read w) t ≡ some_pair (λ v m. ltb v m) (column 4 (rows_before w (word w 0))) (amounts_at (word w 0) (take r.moved places) (take r.moved counts))
     unfolding insert_overruns either read
     behind_box k =
         ap (λ x. either x (falls_below (read w) t (read w).rows))
         (le-ltb (box_of (read w)) (word w 5 + insert_gain (read w) t) (let s : word w 5 + insert_gain (read w) t ≤ box_of (read w) = rw (← boxed, ← gained) k in s))
+        ∙ falls_below_pairs (read w) t (read w).rows
+        ∙ ap (some_pair (λ v m. ltb v m) (column 4 (read w).rows)) (sym counted_shares.shared)
 
-    pub judged_each : (b : Bool) → word w 5 + r.gain ≤ cells
-        → b ≡ not (some_pair (λ v m. ltb v m) (column 4 (rows_before w (word w 0))) (amounts_at (word w 0) (take r.moved places) (take r.moved counts)))
-        → InsertAmounts w t places counts (record { amount = r.gain; places = r.moved; fits = b })
-    unfolding read
-    judged_each b k e =
-        record {
-          gained = gained;
-          judged = e ∙ sym (ap not (behind_box k ∙ falls_below_pairs (read w) t (read w).rows ∙ ap (some_pair (λ v m. ltb v m) (column 4 (read w).rows)) (sym counted_shares.shared)));
-          few = counted_few p c;
-          lowers = counted_shares;
-        }
+    -- by the contributions: `b` is whether all of them are high enough
+    module _ (b : Bool) (k : word w 5 + r.gain ≤ cells) (e : b ≡ not (some_pair (λ v m. ltb v m) (column 4 (rows_before w (word w 0))) (amounts_at (word w 0) (take r.moved places) (take r.moved counts)))) where
+      pub judged_below : b ≡ false → InsertJudged w t places counts (Err Miscount)
+      judged_below f = record { row = sym (guard_yes _ 13 0 (behind_box k ∙ not-false _ (sym e ∙ f))); amounts = tt }
+
+      pub judged_fit : b ≡ true → (m : Moved) → m.amount ≡ r.gain → m.places ≡ r.moved → InsertJudged w t places counts (Ok m)
+      judged_fit f m amount at =
+          record {
+            row = sym (guard_no _ 13 0 (behind_box k ∙ not-true _ (sym e ∙ f)));
+            amounts = record {
+              gained = amount ∙ gained;
+              few = subst (λ n. n ≤ 512) (sym at) (counted_few p c);
+              lowers = subst (λ n. InsertShares w t (take n places) (take n counts)) (sym at) counted_shares;
+            };
+          }
 
 -- The kept total and a gain are both at most the box, so their sum fits a word.
 pub gain_fits : (w : List ℕ) (t : Trial) (r : ℕ) → archive_rows w 0 ≡ 0 → r ≡ insert_gain (read w) t → word w 5 + r ≤ 2305843009213693952

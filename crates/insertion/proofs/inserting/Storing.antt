@@ -1,11 +1,12 @@
 -- An insertion stored: contributions lowered, the new record entered, the header written.
 use Prim.Native.Nat.{ℕ, suc, ◌+◌, ◌-◌, ◌*◌, ◌≤◌, ◌<◌}
 use mathlib.Core.Path.{◌≡◌, refl, sym, ap, ap₂, ◌∙◌}
-use mathlib.Core.Bool.{true, false}
+use mathlib.Core.Bool.{false}
 use mathlib.Core.List.{List, ◌∷◌, ◌++◌, map, append-nil, []}
 use native.Mathlib.Numerals.{add-one}
 use native.Mathlib.Omega.{arith}
 use lib.ListN.{length, take, drop, set, length-map}
+use Rattle.std.specs.Prelude.{Ok}
 use Rattle.words.specs.Archive.{Trial, Row, Archive, trials}
 use Rattle.words.specs.Layout.{records, read, word}
 use Rattle.words.specs.Places.{rows_before}
@@ -14,6 +15,7 @@ use Rattle.calls.specs.Calls.{place, insert_gain, lowered, inserted, box_of, ins
 use Rattle.records.specs.Columns.{rekept, column}
 use Rattle.records.specs.Ranks.{rank_of}
 use Rattle.records.proofs.Ranks.{rank_inside, place_ranked}
+use Rattle.calls.proofs.Answers.{guard_off}
 use Rattle.calls.proofs.Known.{count_rows, known}
 use Rattle.records.proofs.Stored
 use Rattle.records.proofs.Stored.{rows_put}
@@ -23,11 +25,11 @@ use Rattle.slices.proofs.Put.{put_over}
 use Rattle.words.proofs.Reading.{length_records, length_read_rows}
 use Rattle.calls.proofs.Members.{place_length, trials_map}
 use lib.Dec.{ltb}
-use borrow.Author.Tests.{not-true, not-false, ltb-false}
+use borrow.Author.Tests.{ltb-false}
 use Rattle.slices.proofs.Choices.{either_false}
 use Rattle.words.specs.Format.{archive_rows}
 use Rattle.records.specs.declared.amounts.Moved.{Moved}
-use Rattle.insertion.specs.Inserting.{InsertAmounts, InsertReady, entered}
+use Rattle.insertion.specs.Inserting.{InsertJudged, InsertReady, entered}
 use Rattle.records.proofs.MovedAmounts.{lowered_rows, falls_below_pairs}
 
 -- Storing an insertion: sums fit, and the words left are the new layout.
@@ -95,24 +97,18 @@ insertion_stored w w₁ w₂ w₃ places counts t g k h ranked e₁ e₂ e₃ =
     (e₂ ∙ ap (λ x. put w₁ 8 (records (take k (rows_before w₁ (word w 0)) ++ (record { trial = t; kept = x } ∷ drop k (rows_before w₁ (word w 0)))))) h.gained)
     (e₃ ∙ ap (λ k. set (set w₂ 0 (word w 0 + 1)) 5 (word w 5 + k)) h.gained)
 
--- Row 13, or what storing asks.
-module _ {w : List ℕ} {t : Trial} {places counts : List ℕ} {m : Moved} (h : InsertAmounts w t places counts m) where
-  pub overruns : m.fits ≡ false → insert_overruns (read w) t ≡ true
-  overruns e = not-false _ (sym h.judged ∙ e)
-
-  pub fits_box : m.fits ≡ true → insert_overruns (read w) t ≡ false
-  fits_box e = not-true _ (sym h.judged ∙ e)
-
-  pub storing : archive_rows w 0 ≡ 0 → word w 0 < word w 1 → m.fits ≡ true → InsertReady w t m.amount (take m.places places) (take m.places counts)
-  unfolding insert_overruns read
-  storing p f e =
-      let parts = either_false _ _ (fits_box e) in
-      let within_box : ltb (box_of (read w)) (word w 5 + insert_gain (read w) t) ≡ false = parts.0 in
-      record {
-        passes = p;
-        free = f;
-        gained = h.gained;
-        whole = rw h.gained (ltb-false (box_of (read w)) (word w 5 + insert_gain (read w) t) within_box);
-        lowers = h.lowers;
-        enough = ap (some_pair (λ v m. ltb v m) (column 4 (read w).rows)) h.lowers.shared ∙ sym (falls_below_pairs (read w) t (read w).rows) ∙ parts.1;
-      }
+-- Where row 13 lets pass: what storing asks.
+pub storing : {w : List ℕ} {t : Trial} {places counts : List ℕ} {m : Moved} → InsertJudged w t places counts (Ok m) → archive_rows w 0 ≡ 0 → word w 0 < word w 1
+    → InsertReady w t m.amount (take m.places places) (take m.places counts)
+unfolding insert_overruns read
+storing {w} {t} h p f =
+    let parts = either_false _ _ (guard_off _ 12 0 (sym h.row)) in
+    let within_box : ltb (box_of (read w)) (word w 5 + insert_gain (read w) t) ≡ false = parts.0 in
+    record {
+      passes = p;
+      free = f;
+      gained = h.amounts.gained;
+      whole = rw h.amounts.gained (ltb-false (box_of (read w)) (word w 5 + insert_gain (read w) t) within_box);
+      lowers = h.amounts.lowers;
+      enough = ap (some_pair (λ v m. ltb v m) (column 4 (read w).rows)) h.amounts.lowers.shared ∙ sym (falls_below_pairs (read w) t (read w).rows) ∙ parts.1;
+    }
