@@ -1,12 +1,12 @@
 -- The steps of an insertion: its counted amounts, what storing it asks, and what it leaves before its front is counted. Used by
 -- the contracts of the inner functions; no exported contract cites it.
-use Rattle.std.specs.Prelude.{ℕ, ◌+◌, ◌≤◌, ◌<◌, false, ◌≡◌, List, ◌++◌, ltb, take, Result, IfOk}
+use Rattle.std.specs.Prelude.{ℕ, ◌+◌, ◌≤◌, ◌<◌, false, ◌≡◌, List, ◌++◌, ltb, take, true, Result, MatchResult}
 use Rattle.refusals.specs.declared.Refusal.{Refusal}
-use Rattle.refusals.specs.Table.{outcome}
+use Rattle.refusals.specs.declared.Refusal.TheVariants.{Miscount}
 use Rattle.slices.specs.Amounts.{some_pair, Placed, amounts_at}
 use Rattle.words.specs.Archive.{Trial}
 use Rattle.words.specs.Layout.{layout, read, word, behind}
-use Rattle.words.specs.Format.{guard, archive_rows}
+use Rattle.words.specs.Format.{archive_rows}
 use Rattle.words.specs.Places.{rows_before}
 use Rattle.records.specs.declared.amounts.Moved.{Moved}
 use Rattle.calls.specs.Calls.{box_of, insert_gain, insert_overruns, insert_rows, inserted}
@@ -38,13 +38,13 @@ pub record Enters (w : List ℕ) (t : Trial) (r : ℕ) (left : List ℕ) : Type 
   pub done : r ≡ 0 → left ≡ entered w t
   pub refused : (r ≡ 0 → ⊥) → left ≡ w
 
--- An insertion's amounts: the gain, and the joint counts.
+-- An insertion's amounts, which row 13 lets pass: the gain, and the joint counts.
 pub record InsertMoves (w : List ℕ) (t : Trial) (places counts : List ℕ) (m : Moved) : Type 0 where
   pub gained : m.amount ≡ insert_gain (read w) t
+  pub judged : insert_overruns (read w) t ≡ false
   pub few : m.places ≤ 512
   pub lowers : InsertShares w t (take m.places places) (take m.places counts)
 
--- What judging an insertion comes to: row 13, and where it lets pass the amounts.
-pub record InsertJudged (w : List ℕ) (t : Trial) (places counts : List ℕ) (r : Result Moved Refusal) : Type 0 where
-  pub row : outcome r ≡ guard (insert_overruns (read w) t) 13 0
-  pub amounts : IfOk r (InsertMoves w t places counts)
+-- What judging an insertion comes to: the amounts, or row 13.
+abbrev pub InsertJudged : List ℕ → Trial → (places counts : List ℕ) → Result Moved Refusal → Type 0
+InsertJudged w t places counts r = MatchResult r (InsertMoves w t places counts) (λ e. (e ≡ Miscount) × (insert_overruns (read w) t ≡ true))

@@ -22,7 +22,6 @@ use Rattle.records.specs.Columns.{column}
 use Rattle.ask.specs.RecordCounts.{CountedJoints}
 use Rattle.ask.proofs.CountedAmounts.{all_gain, all_shares, all_rows, counted_few, counted_placed}
 use Rattle.insertion.specs.Inserting.{InsertShares, InsertJudged}
-use Rattle.calls.proofs.Answers.{guard_yes, guard_no}
 use Rattle.calls.proofs.Known.{known, count_rows}
 use Rattle.records.specs.declared.amounts.Moved.{Moved}
 use Rattle.records.proofs.MovedAmounts.{falls_below_pairs}
@@ -48,7 +47,7 @@ module _ {w : List ℕ} (t : Trial) {q places counts : List ℕ} {r : Updated} (
         let over : insert_overruns (read w) t ≡ true =
         ap (λ x. either x (falls_below (read w) t (read w).rows))
         (lt-ltb (box_of (read w)) (word w 5 + insert_gain (read w) t) (let s : box_of (read w) < word w 5 + insert_gain (read w) t = rw (← boxed, ← gained) k in s)) in
-        record { row = sym (guard_yes _ 13 0 over); amounts = tt }
+        (refl, over)
 
     behind_box : word w 5 + r.gain ≤ cells → insert_overruns (read w) t ≡ some_pair (λ v m. ltb v m) (column 4 (rows_before w (word w 0))) (amounts_at (word w 0) (take r.moved places) (take r.moved counts))
     unfolding insert_overruns either read
@@ -61,17 +60,15 @@ module _ {w : List ℕ} (t : Trial) {q places counts : List ℕ} {r : Updated} (
     -- by the contributions: `b` is whether all of them are high enough
     module _ (b : Bool) (k : word w 5 + r.gain ≤ cells) (e : b ≡ not (some_pair (λ v m. ltb v m) (column 4 (rows_before w (word w 0))) (amounts_at (word w 0) (take r.moved places) (take r.moved counts)))) where
       pub judged_below : b ≡ false → InsertJudged w t places counts (Err Miscount)
-      judged_below f = record { row = sym (guard_yes _ 13 0 (behind_box k ∙ not-false _ (sym e ∙ f))); amounts = tt }
+      judged_below f = (refl, behind_box k ∙ not-false _ (sym e ∙ f))
 
       pub judged_fit : b ≡ true → (m : Moved) → m.amount ≡ r.gain → m.places ≡ r.moved → InsertJudged w t places counts (Ok m)
       judged_fit f m amount at =
           record {
-            row = sym (guard_no _ 13 0 (behind_box k ∙ not-true _ (sym e ∙ f)));
-            amounts = record {
-              gained = amount ∙ gained;
-              few = subst (λ n. n ≤ 512) (sym at) (counted_few p c);
-              lowers = subst (λ n. InsertShares w t (take n places) (take n counts)) (sym at) counted_shares;
-            };
+            gained = amount ∙ gained;
+            judged = behind_box k ∙ not-true _ (sym e ∙ f);
+            few = subst (λ n. n ≤ 512) (sym at) (counted_few p c);
+            lowers = subst (λ n. InsertShares w t (take n places) (take n counts)) (sym at) counted_shares;
           }
 
 -- The kept total and a gain are both at most the box, so their sum fits a word.

@@ -14,12 +14,6 @@ use Rattle.calls.proofs.Answers.{rows_refused, rows_passed, leaves_refused, leav
 use Rattle.insertion.specs.Inserting.{entered, Enters}
 use Rattle.insertion.proofs.inserting.Admitting.{admitted, admission_same}
 
--- Where row 13 refuses, by a number that is not 0, the words stay.
-pub row_13_kept : (b : Bool) (old new : List ℕ) {n : ℕ} → n ≡ guard b 13 0 → (n ≡ 0 → ⊥) → old ≡ pick b old new
-unfolding guard pick
-row_13_kept true old new e other = refl
-row_13_kept false old new e other = absurd (other e)
-
 -- The ways out of `enter`: turned down by rows 5 to 8, or by row 13, or entered.
 pub enter_turned : (w : List ℕ) (t : Trial) (r : ℕ) → r ≡ admission_rows (read w) t 0 → (r ≡ 0 → ⊥) → Enters w t r w
 unfolding insert_rows

@@ -6,7 +6,6 @@ use mathlib.Core.List.{List, ◌∷◌, ◌++◌, map, append-nil, []}
 use native.Mathlib.Numerals.{add-one}
 use native.Mathlib.Omega.{arith}
 use lib.ListN.{length, take, drop, set, length-map}
-use Rattle.std.specs.Prelude.{Ok}
 use Rattle.words.specs.Archive.{Trial, Row, Archive, trials}
 use Rattle.words.specs.Layout.{records, read, word}
 use Rattle.words.specs.Places.{rows_before}
@@ -15,7 +14,6 @@ use Rattle.calls.specs.Calls.{place, insert_gain, lowered, inserted, box_of, ins
 use Rattle.records.specs.Columns.{rekept, column}
 use Rattle.records.specs.Ranks.{rank_of}
 use Rattle.records.proofs.Ranks.{rank_inside, place_ranked}
-use Rattle.calls.proofs.Answers.{guard_off}
 use Rattle.calls.proofs.Known.{count_rows, known}
 use Rattle.records.proofs.Stored
 use Rattle.records.proofs.Stored.{rows_put}
@@ -29,7 +27,7 @@ use borrow.Author.Tests.{ltb-false}
 use Rattle.slices.proofs.Choices.{either_false}
 use Rattle.words.specs.Format.{archive_rows}
 use Rattle.records.specs.declared.amounts.Moved.{Moved}
-use Rattle.insertion.specs.Inserting.{InsertJudged, InsertReady, entered}
+use Rattle.insertion.specs.Inserting.{InsertMoves, InsertReady, entered}
 use Rattle.records.proofs.MovedAmounts.{lowered_rows, falls_below_pairs}
 
 -- Storing an insertion: sums fit, and the words left are the new layout.
@@ -98,17 +96,17 @@ insertion_stored w w₁ w₂ w₃ places counts t g k h ranked e₁ e₂ e₃ =
     (e₃ ∙ ap (λ k. set (set w₂ 0 (word w 0 + 1)) 5 (word w 5 + k)) h.gained)
 
 -- Where row 13 lets pass: what storing asks.
-pub storing : {w : List ℕ} {t : Trial} {places counts : List ℕ} {m : Moved} → InsertJudged w t places counts (Ok m) → archive_rows w 0 ≡ 0 → word w 0 < word w 1
+pub storing : {w : List ℕ} {t : Trial} {places counts : List ℕ} {m : Moved} → InsertMoves w t places counts m → archive_rows w 0 ≡ 0 → word w 0 < word w 1
     → InsertReady w t m.amount (take m.places places) (take m.places counts)
 unfolding insert_overruns read
 storing {w} {t} h p f =
-    let parts = either_false _ _ (guard_off _ 12 0 (sym h.row)) in
+    let parts = either_false _ _ h.judged in
     let within_box : ltb (box_of (read w)) (word w 5 + insert_gain (read w) t) ≡ false = parts.0 in
     record {
       passes = p;
       free = f;
-      gained = h.amounts.gained;
-      whole = rw h.amounts.gained (ltb-false (box_of (read w)) (word w 5 + insert_gain (read w) t) within_box);
-      lowers = h.amounts.lowers;
-      enough = ap (some_pair (λ v m. ltb v m) (column 4 (read w).rows)) h.amounts.lowers.shared ∙ sym (falls_below_pairs (read w) t (read w).rows) ∙ parts.1;
+      gained = h.gained;
+      whole = rw h.gained (ltb-false (box_of (read w)) (word w 5 + insert_gain (read w) t) within_box);
+      lowers = h.lowers;
+      enough = ap (some_pair (λ v m. ltb v m) (column 4 (read w).rows)) h.lowers.shared ∙ sym (falls_below_pairs (read w) t (read w).rows) ∙ parts.1;
     }

@@ -7,14 +7,12 @@ use lib.ListN.{length}
 use lib.Seq.{length-take-le}
 use borrow.Author.Rules.{rules}
 use Rattle.std.proofs.lemmas.Result.{err_from_is_err_and}
-use Rattle.refusals.proofs.Table.{number_positive}
 use Rattle.hypervolume.specs.Sorted.{Small}
 use Rattle.words.proofs.Places.{point_of_trial}
 use Rattle.words.proofs.Passed.{coordinates_small}
 use Rattle.insertion.proofs.inserting.Admitting.{admitted}
 use Rattle.insertion.proofs.inserting.Storing.{storing}
-use Rattle.calls.proofs.Answers.{guard_off, row_13_passed}
-use Rattle.insertion.proofs.inserting.Outcomes.{row_13_kept}
+use Rattle.calls.proofs.Answers.{row_13_given, row_13_passed}
 use Rattle.insertion.proofs.inserting.put_in.Goals.{In_ok-moved}
 use Rattle.insertion.proofs.inserting.put_in.Goals as goal
 
@@ -27,16 +25,16 @@ judge-requires c =
 -- The lists that the counts and their places stand in are long enough for all of them.
 module _ (c : In_ok-moved) where
   in_places : c.in_ok-moved.moved.places ≤ length c.judge.new.places
-  in_places = omega (arith, (c.in_ok-moved.ensures 0).amounts.few, c.judge.auto, c.requires.2.places_long)
+  in_places = omega (arith, (c.in_ok-moved.ensures 0).few, c.judge.auto, c.requires.2.places_long)
 
   in_counts : c.in_ok-moved.moved.places ≤ length c.judge.new.counts
-  in_counts = omega (arith, (c.in_ok-moved.ensures 0).amounts.few, c.judge.auto, c.requires.2.counts_long)
+  in_counts = omega (arith, (c.in_ok-moved.ensures 0).few, c.judge.auto, c.requires.2.counts_long)
 
 pub returns-in_err-moved : goal.returns-in_err-moved
 returns-in_err-moved c =
     let p = err_from_is_err_and c.from_residual.result c.from_residual.ensures.1 in
-    let given = c.in_err-moved.ensures c.args.number in
-    rw (p.1, p.2) (record { answer = given.row; words = row_13_kept _ _ _ given.row (number_positive _) })
+    let row_13 = c.in_err-moved.ensures c.args.number in
+    rw (p.1, p.2, row_13.0) (record { answer = (row_13_given _ [] [] row_13.1).0; words = (row_13_given _ _ _ row_13.1).1 })
 
 pub slice_bounds-store-end : goal.slice_bounds-store-end
 slice_bounds-store-end c = in_places (goal.at.slice_bounds-store-end c).In_ok-moved
@@ -55,5 +53,5 @@ store-requires c = storing (c.in_ok-moved.ensures _) c.requires.0 (admitted c.ar
 
 pub returns : goal.returns
 returns c =
-    let fits = guard_off _ 12 0 (sym (c.in_ok-moved.ensures c.args.number).row) in
+    let fits = (c.in_ok-moved.ensures c.args.number).judged in
     record { answer = (row_13_passed _ [] [] [] fits refl).0; words = (row_13_passed _ _ _ _ fits c.store.ensures).1 }
