@@ -2,39 +2,39 @@
 // counted anew.
 ghost use Rattle.std.specs.Prelude.{◌≡◌, ◌++◌, ◌≤◌, ◌<◌, length};
 ghost use Rattle.slices.specs.Choices.{pick};
+ghost use Rattle.refusals.specs.Table.{outcome};
 ghost use Rattle.words.specs.Layout.{word, layout, read, behind};
 ghost use Rattle.words.specs.Format.{guard, archive_rows};
 ghost use Rattle.calls.specs.Calls.{remove_overruns, removed};
 ghost use Rattle.calls.specs.Lent.{remove};
 ghost use Rattle.records.specs.Fronts.{unfronted};
-ghost use Rattle.removal.specs.Removing.{number_at, RemoveAmounts, RemoveReady};
+ghost use Rattle.removal.specs.Removing.{number_at, RemoveJudged, RemoveReady};
 
 use ask::count_joints;
 use records::{Moved, raise_at, renew, strike, within};
+use refusals::Refusal;
 use words::{box_of, find, record_at, reference_of, refusal};
 
-// The loss of the trial at place k, its joint counts with the others, said by the places of those that need not be 0, and
-// whether the total and all contributions stay from 0 to the box (row 13).
-fn raised(w: &[u64], k: usize, places: &mut [u16], counts: &mut [u64]) -> Moved
+// The loss of the trial at place k, and its joint counts with the others, said by the places of those that need not be 0; or row
+// 13, where the total or a contribution, moved by these, does not stay from 0 to the box.
+fn raised(w: &[u64], k: usize, places: &mut [u16], counts: &mut [u64]) -> Result<Moved, Refusal>
     requires { (archive_rows w.now 0 ≡ 0) × (k < word w.now 0) × (512 ≤ length places.old) × (512 ≤ length counts.old) }
-    ensures { RemoveAmounts w.now k places.new counts.new result }
+    ensures { RemoveJudged w.now k places.new counts.new result }
 {
     let n = w[0] as usize;
     let counted = count_joints(w, k, record_at(w, k).point, places, counts);
     let m = counted.moved;
     if w[5] < counted.gain {
-        return Moved {
-            amount: counted.gain,
-            places: m,
-            fits: false,
-        };
+        return Err(Refusal::Miscount);
     }
-    let fits = within(w, n, k, &places[..m], &counts[..m], box_of(reference_of(w)));
-    Moved {
+    if !within(w, n, k, &places[..m], &counts[..m], box_of(reference_of(w))) {
+        return Err(Refusal::Miscount);
+    }
+    Ok(Moved {
         amount: counted.gain,
         places: m,
-        fits,
-    }
+        fits: true,
+    })
 }
 
 // Strikes out the record at place k, raises the others' contributions at these places, and writes the header, with no front
@@ -54,34 +54,27 @@ fn store(w: &mut [u64], k: usize, loss: u64, places: &[u16], counts: &[u64])
 }
 
 // Row 13, or the removal of the record at place k.
-fn take_out(w: &mut [u64], k: usize) -> u64
+fn take_out(w: &mut [u64], k: usize) -> Result<(), Refusal>
     requires { (archive_rows w.old 0 ≡ 0) × (k < word w.old 0) }
-    ensures answer { result ≡ guard (remove_overruns (read w.old) (number_at w.old k)) 13 0 }
+    ensures answer { outcome result ≡ guard (remove_overruns (read w.old) (number_at w.old k)) 13 0 }
     ensures words { w.new ≡ pick (remove_overruns (read w.old) (number_at w.old k)) w.old (layout (removed (read w.old) (number_at w.old k)) ++ behind w.old) }
 {
     let mut places = [0u16; 512];
     let mut counts = [0u64; 512];
-    let moved = raised(w, k, &mut places, &mut counts);
-    if !moved.fits {
-        return 13;
-    }
+    let moved = raised(w, k, &mut places, &mut counts)?;
     let m = moved.places;
     store(w, k, moved.amount, &places[..m], &counts[..m]);
     renew(w);
-    0
+    Ok(())
 }
 
-// Remove (number). Answers 0 when done.
-pub fn remove(w: &mut [u64], number: u64) -> u64
-    ensures { (result ≡ (remove w.old number).refusal) × (w.new ≡ (remove w.old number).words) }
+// Remove (number).
+pub fn remove(w: &mut [u64], number: u64) -> Result<(), Refusal>
+    ensures { (outcome result ≡ (remove w.old number).refusal) × (w.new ≡ (remove w.old number).words) }
 {
-    let refused = refusal(w);
-    if refused != 0 {
-        return refused;
-    }
-    let k = find(w, number);
-    if w[0] as usize <= k {
-        return 9;
-    }
+    refusal(w)?;
+    let Some(k) = find(w, number) else {
+        return Err(Refusal::NotHeld);
+    };
     take_out(w, k)
 }

@@ -1,12 +1,14 @@
 -- The ways out of raised: row 13, or the others' joint counts by their places.
 use Prim.Native.Nat.{ℕ, zero, suc, ◌+◌, ◌-◌, ◌≤◌, ◌<◌, zero-le}
 use mathlib.Core.Path.{◌≡◌, refl, sym, ap, ap₂, subst, ◌∙◌}
-use mathlib.Core.Bool.{Bool, false, not}
+use mathlib.Core.Bool.{Bool, true, false, not}
 use mathlib.Core.List.{List, ◌∷◌, []}
 use native.Mathlib.Omega.{arith}
 use lib.Dec.{ltb}
-use borrow.Author.Tests.{lt-ltb, le-ltb}
+use borrow.Author.Tests.{lt-ltb, le-ltb, not-true, not-false}
 use lib.ListN.{length, get_or, take}
+use Rattle.std.specs.Prelude.{Ok, Err}
+use Rattle.refusals.specs.declared.Refusal.TheVariants.{Miscount}
 use Rattle.slices.specs.Choices.{either}
 use Rattle.slices.specs.Spread.{Sparse}
 use Rattle.slices.specs.Amounts.{some_pair, Each, Placed, amounts_at}
@@ -21,9 +23,10 @@ use Rattle.calls.specs.Calls.{reference_of, held_points, box_of, insert_gain, jo
 use Rattle.records.specs.Columns.{column, leave_out}
 use Rattle.records.specs.Amounts.{shares}
 use Rattle.ask.specs.RecordCounts.{CountedJoints}
-use Rattle.removal.specs.Removing.{number_at, removal_shares, RemoveAmounts}
+use Rattle.removal.specs.Removing.{number_at, removal_shares, RemoveJudged}
 use Rattle.records.proofs.HeldPoints.{column_each}
 use Rattle.records.proofs.LeaveOut.{others_at, row_of_at, length_leave_out, left_allowed}
+use Rattle.records.specs.declared.amounts.Moved.{Moved}
 use Rattle.calls.proofs.Known.{count_rows, known}
 use Rattle.records.proofs.MovedAmounts.{exceeds_pairs}
 use Rattle.records.proofs.RowAt.{blank, row_there}
@@ -96,16 +99,14 @@ unfolding read
 low_asked w k {counts = counts} limit p e h s =
     subst (λ b. Each (column 4 (leave_out k (read w).rows)) b × Each counts b) (sym e) (kept_each w k p, placed_low w k h s)
 
--- The two ways out of `raised`.
+-- The ways out of `raised`.
 module _ (w : List ℕ) (k : ℕ) (p : archive_rows w 0 ≡ 0) (l : k < word w 0) {places counts : List ℕ} {r m : ℕ} (lost : r ≡ removal_loss (read w) (number_at w k)) (each : Sparse (word w 0 - 1) (removal_shares w k) places counts m) where
-  pub raised_over : word w 5 < r → RemoveAmounts w k places counts (record { amount = r; places = m; fits = false })
+  pub raised_over : word w 5 < r → RemoveJudged w k places counts (Err Miscount)
   unfolding remove_overruns either read
   raised_over h =
-      record {
-        lost = lost;
-        judged = sym (ap not (ap (λ x. either x (exceeds (without (read w) (number_at w k)) (row_of (number_at w k) (read w).rows).trial (others (number_at w k) (read w).rows))) (lt-ltb (word w 5) (removal_loss (read w) (number_at w k)) (let s : word w 5 < removal_loss (read w) (number_at w k) = rw (← lost) h in s))));
-        each = each;
-      }
+      let over : remove_overruns (read w) (number_at w k) ≡ true =
+      ap (λ x. either x (exceeds (without (read w) (number_at w k)) (row_of (number_at w k) (read w).rows).trial (others (number_at w k) (read w).rows))) (lt-ltb (word w 5) (removal_loss (read w) (number_at w k)) (let s : word w 5 < removal_loss (read w) (number_at w k) = rw (← lost) h in s)) in
+      (refl, over)
 
   behind_total : r ≤ word w 5 → remove_overruns (read w) (number_at w k) ≡ some_pair (λ v m. ltb (box_of (read w)) (v + m)) (column 4 (leave_out k (read w).rows)) (removal_shares w k)
   unfolding remove_overruns either read without
@@ -114,16 +115,23 @@ module _ (w : List ℕ) (k : ℕ) (p : archive_rows w 0 ≡ 0) (l : k < word w 0
       ∙ ap₂ (λ x y. exceeds (without (read w) (number_at w k)) x.trial y) (removing w k p l).gone (removing w k p l).rest
       ∙ exceeds_pairs (without (read w) (number_at w k)) (row_at w k).trial (leave_out k (read w).rows)
 
-  pub raised_judged : {limit : ℕ} {b : Bool} → r ≤ word w 5 → limit ≡ box_of (read w)
-      → b ≡ not (some_pair (λ v m. ltb limit (v + m)) (column 4 (leave_out k (rows_before w (word w 0)))) (amounts_at (word w 0 - 1) (take m places) (take m counts)))
-      → RemoveAmounts w k places counts (record { amount = r; places = m; fits = b })
-  unfolding read
-  raised_judged h e j =
-      record {
-        lost = lost;
-        judged = j ∙ ap not (ap₂ (λ x ms. some_pair (λ v m. ltb x (v + m)) (column 4 (leave_out k (read w).rows)) ms) e (sym each.is_spread) ∙ sym (behind_total h));
-        each = each;
-      }
+  -- by the contributions: `b` is whether all of them stay within the box
+  module _ {limit : ℕ} (b : Bool) (h : r ≤ word w 5) (e : limit ≡ box_of (read w)) (j : b ≡ not (some_pair (λ v m. ltb limit (v + m)) (column 4 (leave_out k (rows_before w (word w 0)))) (amounts_at (word w 0 - 1) (take m places) (take m counts)))) where
+    decided : b ≡ not (remove_overruns (read w) (number_at w k))
+    unfolding read
+    decided =
+        j ∙ ap not (ap₂ (λ x ms. some_pair (λ v m. ltb x (v + m)) (column 4 (leave_out k (read w).rows)) ms) e (sym each.is_spread) ∙ sym (behind_total h))
+
+    pub raised_above : b ≡ false → RemoveJudged w k places counts (Err Miscount)
+    raised_above f = (refl, not-false _ (sym decided ∙ f))
+
+    pub raised_fit : b ≡ true → (moved : Moved) → moved.amount ≡ r → moved.places ≡ m → RemoveJudged w k places counts (Ok moved)
+    raised_fit f moved amount at =
+        record {
+          lost = amount ∙ lost;
+          judged = not-true _ (sym decided ∙ f);
+          each = subst (λ n. Sparse (word w 0 - 1) (removal_shares w k) places counts n) (sym at) each;
+        }
 
 pub box_fits : (w : List ℕ) → archive_rows w 0 ≡ 0 → box_of (read w) ≤ 1152921504606846976
 unfolding read

@@ -24,41 +24,34 @@ use Rattle.slices.specs.Amounts.{moved, Each, amounts_at}
 use Rattle.slices.proofs.Put.{put_front_over}
 use Rattle.words.proofs.Reading.{length_records}
 use lib.Dec.{ltb}
-use borrow.Author.Tests.{not-true, not-false, ltb-false}
+use borrow.Author.Tests.{ltb-false}
 use Rattle.slices.proofs.Choices.{either_false}
 use Rattle.slices.proofs.Placed.{sparse_placed}
 use Rattle.words.specs.Format.{archive_rows, held}
 use Rattle.calls.proofs.Sound.{removed_sound}
 use Rattle.records.proofs.RowAt.{blank}
 use Rattle.records.specs.declared.amounts.Moved.{Moved}
-use Rattle.removal.specs.Removing.{number_at, removal_shares, RemoveAmounts, RemoveReady}
+use Rattle.removal.specs.Removing.{number_at, removal_shares, RemoveMoves, RemoveReady}
 use Rattle.records.proofs.MovedAmounts.{raised_rows}
 use Rattle.removal.proofs.removing.Raising.{removing, kept_each, placed_low, box_fits}
 
--- Row 13, or what storing asks.
-module _ {w : List ℕ} {k : ℕ} {places counts : List ℕ} {m : Moved} (h : RemoveAmounts w k places counts m) where
-  pub overruns : m.fits ≡ false → remove_overruns (read w) (number_at w k) ≡ true
-  overruns e = not-false _ (sym h.judged ∙ e)
+-- Where row 13 lets pass: what storing asks.
+module _ {w : List ℕ} {k : ℕ} {places counts : List ℕ} {m : Moved} (h : RemoveMoves w k places counts m) (p : archive_rows w 0 ≡ 0) where
+  pub places_few : m.places ≤ 512
+  places_few = omega (arith, h.each.few, (known w p).few)
 
-  pub fits_box : m.fits ≡ true → remove_overruns (read w) (number_at w k) ≡ false
-  fits_box e = not-true _ (sym h.judged ∙ e)
-
-  module _ (p : archive_rows w 0 ≡ 0) where
-    pub places_few : m.places ≤ 512
-    places_few = omega (arith, h.each.few, (known w p).few)
-
-    pub striking : 512 ≤ length places → 512 ≤ length counts → k < word w 0 → m.fits ≡ true → RemoveReady w k m.amount (take m.places places) (take m.places counts)
-    unfolding remove_overruns read
-    striking lp lc l e =
-        let within-total : ltb (word w 5) (removal_loss (read w) (number_at w k)) ≡ false = (either_false _ _ (fits_box e)).0 in
-        record {
-          passes = p;
-          inside = l;
-          lost = h.lost;
-          whole = rw h.lost (ltb-false (word w 5) (removal_loss (read w) (number_at w k)) within-total);
-          placed = sparse_placed h.each (omega (arith, places_few)) (omega (arith, places_few));
-          each = sym h.each.is_spread;
-        }
+  pub striking : 512 ≤ length places → 512 ≤ length counts → k < word w 0 → RemoveReady w k m.amount (take m.places places) (take m.places counts)
+  unfolding remove_overruns read
+  striking lp lc l =
+      let within-total : ltb (word w 5) (removal_loss (read w) (number_at w k)) ≡ false = (either_false _ _ h.judged).0 in
+      record {
+        passes = p;
+        inside = l;
+        lost = h.lost;
+        whole = rw h.lost (ltb-false (word w 5) (removal_loss (read w) (number_at w k)) within-total);
+        placed = sparse_placed h.each (omega (arith, places_few)) (omega (arith, places_few));
+        each = sym h.each.is_spread;
+      }
 
 -- The record at place k struck out.
 record Struck (w w₁ : List ℕ) (k m : ℕ) : Type 0 where
@@ -149,7 +142,7 @@ module _ (w : List ℕ) (k : ℕ) {w₁ : List ℕ} {loss : ℕ} {places counts 
 -- What is stored passes rows 1 to 3, and with the front counted it is the archive with the trial removed.
 module _ (w w₁ : List ℕ) (k : ℕ) (p : archive_rows w 0 ≡ 0) (q : k < word w 0) (f : remove_overruns (read w) (number_at w k) ≡ false) (e : w₁ ≡ layout (unfronted (removed (read w) (number_at w k))) ++ behind w) where
   known_number : held (number_at w k) (trials (read w).rows) ≡ true
-  unfolding read number_at
+  unfolding read
   known_number =
       ap (λ r. held r.trial.number (trials (rows_before w (word w 0)))) (sym (rows_before_at w (word w 0) k blank q))
       ∙ held_at (rows_before w (word w 0)) k blank (omega (arith, count_rows w))
