@@ -95,7 +95,8 @@ fn row_allowed(s: Shape, cells: u64, row: Row) -> bool
     )
 }
 
-// Whether a is less than b in the first number in which they differ.
+// Whether a is less than b in the first number in which they differ. (So does `<` of arrays, but a pass over the records took a
+// sixth more time with it.)
 pub fn ascends(a: [u64; 4], b: [u64; 4]) -> bool
     ensures { result ≡ ascends a b }
 {
