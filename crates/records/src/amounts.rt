@@ -6,20 +6,33 @@ ghost use Rattle.slices.specs.Amounts.{some_pair, moved, Each, Placed, amounts_a
 ghost use Rattle.words.specs.Layout.{records};
 ghost use Rattle.words.specs.Places.{rows_before};
 ghost use Rattle.records.specs.Columns.{column, leave_out, place_but, rekept};
+ghost use Rattle.records.specs.AtPlaces.{AtEach, NonePasses, StepsBy};
 
-// Whether a contribution of the first records differs from its count.
+// Whether a contribution of the first records differs from its count. (Every record has its count here, so there are no places.)
 pub fn some_differs(w: &[u64], counts: &[u64]) -> bool
     requires { 8 + 5 * length counts.now ≤ length w.now }
     ensures { result ≡ some_pair (λ v m. not (eqb v m)) (column 4 (rows_before w.now (length counts.now))) counts.now }
 {
-    let mut i = 0;
-    while i < counts.len() {
-        if w[12 + 5 * i] != counts[i] {
+    for (i, count) in counts.iter().enumerate() {
+        if w[12 + 5 * i] != *count {
             return true;
         }
-        i += 1;
     }
     false
+}
+
+// Whether no place passes a test with its count.
+fn none_passes<F: Fn(usize, u64) -> bool>(places: &[u16], counts: &[u64], test: F) -> bool
+    requires many { length counts.now ≡ length places.now }
+    requires asked { AtEach (F.pre test) places.now counts.now }
+    ensures { NonePasses (F.post test) places.now counts.now result }
+{
+    for (place, count) in places.iter().zip(counts) {
+        if test(*place as usize, *count) {
+            return false;
+        }
+    }
+    true
 }
 
 // Whether no contribution of n records is below its count, of the counts at these places.
@@ -27,15 +40,7 @@ pub fn enough(w: &[u64], n: usize, places: &[u16], counts: &[u64]) -> bool
     requires { (8 + 5 * n ≤ length w.now) × Placed n places.now counts.now }
     ensures { result ≡ not (some_pair (λ v m. ltb v m) (column 4 (rows_before w.now n)) (amounts_at n places.now counts.now)) }
 {
-    let mut k = 0;
-    while k < places.len() {
-        let p = places[k] as usize;
-        if w[12 + 5 * p] < counts[k] {
-            return false;
-        }
-        k += 1;
-    }
-    true
+    none_passes(places, counts, |p, count| w[12 + 5 * p] < count)
 }
 
 // The place among all records of the one at place p of the records but the one at `skip`.
@@ -53,15 +58,28 @@ pub fn within(w: &[u64], n: usize, skip: usize, places: &[u16], counts: &[u64], 
     requires each { Each (column 4 (leave_out skip (rows_before w.now n))) limit × Each counts.now limit }
     ensures { result ≡ not (some_pair (λ v m. ltb limit (v + m)) (column 4 (leave_out skip (rows_before w.now n))) (amounts_at (n - 1) places.now counts.now)) }
 {
-    let mut k = 0;
-    while k < places.len() {
-        let at = place_but(skip, places[k] as usize);
-        if limit < w[12 + 5 * at] + counts[k] {
-            return false;
-        }
-        k += 1;
+    none_passes(
+        places,
+        counts,
+        |p, count|
+            requires { (p < 65536) × (12 + 5 * place_but skip p < length w.now) × (get_or w.now (12 + 5 * place_but skip p) 0 + count < 18446744073709551616) }
+            ensures { result ≡ ltb limit (get_or w.entry.now (12 + 5 * place_but skip p) 0 + count) }
+        { limit < w[12 + 5 * place_but(skip, p)] + count },
+    )
+}
+
+// Moves the contributions of n records at these places by their counts, each by the step. (By the index: what the amounts are so
+// far is said of the first k places, and a `zip` has no k.)
+fn move_at<F: Fn(u64, u64) -> u64>(w: &mut [u64], n: usize, places: &[u16], counts: &[u64], step: F)
+    requires n_in_bounds { (8 + 5 * n ≤ length w.old) × Placed n places.now counts.now }
+    requires asked { AtEach (λ p m. F.pre step (get_or (column 4 (rows_before w.old n)) p 0) m) places.now counts.now }
+    requires moves { (op : ℕ → ℕ → ℕ) × StepsBy (F.post step) op (column 4 (rows_before w.old n)) places.now counts.now }
+    ensures { (op : ℕ → ℕ → ℕ) → StepsBy (F.post step) op (column 4 (rows_before w.old n)) places.now counts.now → w.new ≡ put w.old 8 (records (rekept (rows_before w.old n) (moved op (column 4 (rows_before w.old n)) (amounts_at n places.now counts.now)))) }
+{
+    for (k, place) in places.iter().enumerate() {
+        let at = 12 + 5 * *place as usize;
+        w[at] = step(w[at], counts[k]);
     }
-    true
 }
 
 // Lowers the contributions of n records at these places by their counts, none of which is too high.
@@ -70,12 +88,7 @@ pub fn lower_at(w: &mut [u64], n: usize, places: &[u16], counts: &[u64])
     requires counts_value { some_pair (λ v m. ltb v m) (column 4 (rows_before w.old n)) (amounts_at n places.now counts.now) ≡ false }
     ensures { w.new ≡ put w.old 8 (records (rekept (rows_before w.old n) (moved (λ v m. v - m) (column 4 (rows_before w.old n)) (amounts_at n places.now counts.now)))) }
 {
-    let mut k = 0;
-    while k < places.len() {
-        let p = places[k] as usize;
-        w[12 + 5 * p] = w[12 + 5 * p] - counts[k];
-        k += 1;
-    }
+    move_at(w, n, places, counts, |v, m| v - m);
 }
 
 // Raises the contributions of n records at these places by their counts.
@@ -84,25 +97,17 @@ pub fn raise_at(w: &mut [u64], n: usize, places: &[u16], counts: &[u64])
     requires each { Each (column 4 (rows_before w.old n)) 1152921504606846976 × Each counts.now 1152921504606846976 }
     ensures { w.new ≡ put w.old 8 (records (rekept (rows_before w.old n) (moved (λ v m. v + m) (column 4 (rows_before w.old n)) (amounts_at n places.now counts.now)))) }
 {
-    let mut k = 0;
-    while k < places.len() {
-        let p = places[k] as usize;
-        w[12 + 5 * p] = w[12 + 5 * p] + counts[k];
-        k += 1;
-    }
+    move_at(w, n, places, counts, |v, m| v + m);
 }
 
-// Raises the values at these places by their counts.
+// Raises the values at these places by their counts. (They stand side by side, so `move_at`, for one word of five, does not fit.)
 pub fn raise_values(values: &mut [u64], places: &[u16], counts: &[u64])
     requires placed { Placed (length values.old) places.now counts.now }
     requires each { Each values.old 1152921504606846976 × Each counts.now 1152921504606846976 }
     ensures { values.new ≡ moved (λ v m. v + m) values.old (amounts_at (length values.old) places.now counts.now) }
 {
-    let mut k = 0;
-    while k < places.len() {
-        let p = places[k] as usize;
-        values[p] = values[p] + counts[k];
-        k += 1;
+    for (k, place) in places.iter().enumerate() {
+        values[*place as usize] += counts[k];
     }
 }
 
@@ -111,12 +116,10 @@ pub fn amount_at(places: &[u16], counts: &[u64], place: usize) -> u64
     requires { length counts.now ≡ length places.now }
     ensures { (n : ℕ) → Placed n places.now counts.now → result ≡ get_or (amounts_at n places.now counts.now) place 0 }
 {
-    let mut k = 0;
-    while k < places.len() {
-        if places[k] as usize == place {
+    for (k, p) in places.iter().enumerate() {
+        if *p as usize == place {
             return counts[k];
         }
-        k += 1;
     }
     0
 }

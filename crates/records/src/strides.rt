@@ -15,10 +15,8 @@ pub fn load(w: &[u64], n: usize, field: usize, to: &mut [u64])
     requires { (8 + 5 * n ≤ length w.now) × (field < 5) × (n ≤ length to.old) }
     ensures { to.new ≡ put to.old 0 (column field (rows_before w.now n)) }
 {
-    let mut i = 0;
-    while i < n {
+    for i in 0..n {
         to[i] = w[8 + field + 5 * i];
-        i += 1;
     }
 }
 
@@ -27,11 +25,9 @@ fn gather_points(w: &[u64], first: usize, n: usize, to: &mut [[u32; 3]], at: usi
     requires { (archive_rows w.now 0 ≡ 0) × (first + n ≤ word w.now 0) × (at + n ≤ length to.old) }
     ensures { PointsGathered w.now first n at to.old to.new }
 {
-    let mut i = 0;
-    while i < n {
+    for i in 0..n {
         let record = record_at(w, first + i);
         put_point(to, at + i, record.point);
-        i += 1;
     }
 }
 

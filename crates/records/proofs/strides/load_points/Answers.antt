@@ -14,10 +14,6 @@ gather_points-requires c =
     let few = (known c.args.w.now c.requires.0).few in
     (c.requires.0, omega arith, omega (arith, few))
 
-pub overflow_add-skip : goal.overflow_add-skip
-overflow_add-skip c =
-    omega (arith, (known c.args.w.now c.requires.0).few)
-
 pub gather_points-requires-then-skip-n : goal.gather_points-requires-then-skip-n
 gather_points-requires-then-skip-n c =
     let few = (known c.args.w.now c.requires.0).few in
