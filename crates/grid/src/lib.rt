@@ -2,15 +2,17 @@
 // before, and the front is counted once after.
 #![tactic(auto)]
 
-ghost use Rattle.std.specs.Prelude.{◌≡◌, ◌+◌, ◌*◌, ◌≤◌, length, drop};
+ghost use Rattle.std.specs.Prelude.{◌≡◌, ◌+◌, ◌*◌, ◌≤◌, length, drop, Ok};
 ghost use Rattle.words.specs.Format.{archive_rows};
 ghost use Rattle.words.specs.Places.{as_row};
 ghost use Rattle.calls.specs.Grid.{grid_trial, grid_trials, insert_grid};
+ghost use Rattle.calls.specs.Outcomes.{grid_answer_of};
 ghost use Rattle.grid.specs.Filling.{Fills};
 
-use calls::GridAnswer;
+use calls::Filled;
 use insertion::enter;
 use records::renew;
+use refusals::Refusal;
 use words::{Row, refusal};
 
 // The trial at place i of the grid.
@@ -33,9 +35,9 @@ fn trial_at(grid: &[u64], i: usize) -> Row
 }
 
 // Enters the trials in turn, up to the first that rows 5 to 8 or 13 turn down. The front stays as it was.
-fn fill(w: &mut [u64], grid: &[u64]) -> GridAnswer
+fn fill(w: &mut [u64], grid: &[u64]) -> Filled
     requires { archive_rows w.old 0 ≡ 0 }
-    ensures { Fills w.old (grid_trials grid.now) result w.new }
+    ensures { Fills w.old (grid_trials grid.now) (grid_answer_of (Ok result)) w.new }
 {
     let mut points = [[0u32, 0, 0]; 512];
     let mut corners = [[0u32, 0, 0]; 512];
@@ -43,9 +45,8 @@ fn fill(w: &mut [u64], grid: &[u64]) -> GridAnswer
     let mut line = [0u64; 512];
     let mut counts = [0u64; 512];
     let n = grid.len() / 4;
-    let mut i = 0;
-    while i < n {
-        let turned = enter(
+    for i in 0..n {
+        let entered = enter(
             w,
             trial_at(grid, i),
             &mut points,
@@ -54,37 +55,31 @@ fn fill(w: &mut [u64], grid: &[u64]) -> GridAnswer
             &mut line,
             &mut counts,
         );
-        if turned != 0 {
-            return GridAnswer {
-                refusal: 0,
+        if let Err(stop) = entered {
+            return Filled {
                 inserted: i as u64,
-                stop: turned,
+                stop: Some(stop),
             };
         }
-        i += 1;
     }
-    GridAnswer {
-        refusal: 0,
+    Filled {
         inserted: n as u64,
-        stop: 0,
+        stop: None,
     }
 }
 
-// Insert-grid (grid): how many went in, and the refusal number that stopped it, or 0.
-pub fn insert_grid(w: &mut [u64], grid: &[u64]) -> GridAnswer
-    ensures { (result ≡ (insert_grid w.old grid.now).answer) × (w.new ≡ (insert_grid w.old grid.now).words) }
+// Insert-grid (grid): how many went in, and the refusal that stopped it.
+pub fn insert_grid(w: &mut [u64], grid: &[u64]) -> Result<Filled, Refusal>
+    ensures { (grid_answer_of result ≡ (insert_grid w.old grid.now).answer) × (w.new ≡ (insert_grid w.old grid.now).words) }
 {
     if grid.len() % 4 != 0 {
-        return GridAnswer::refused(17);
+        return Err(Refusal::BadLength);
     }
-    let refused = refusal(w);
-    if refused != 0 {
-        return GridAnswer::refused(refused);
-    }
-    let answer = fill(w, grid);
-    if answer.inserted == 0 {
-        return answer;
+    refusal(w)?;
+    let filled = fill(w, grid);
+    if filled.inserted == 0 {
+        return Ok(filled);
     }
     renew(w);
-    answer
+    Ok(filled)
 }

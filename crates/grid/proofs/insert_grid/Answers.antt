@@ -1,36 +1,24 @@
 -- `insert_grid` meets its contract: refused by row 17 or by rows 1 to 3, or filled, and the front counted if a trial went in.
-use Prim.Native.Nat.{◌%◌}
-use mathlib.Core.Path.{◌≡◌, sym, ◌∙◌}
-use lib.ListN.{length}
-use Rattle.words.specs.Format.{archive_rows}
+use mathlib.Core.Path.{refl, sym}
+use Rattle.std.proofs.lemmas.Result.{err_from_is_err_and}
+use Rattle.refusals.proofs.Table.{number_positive}
 use Rattle.grid.proofs.Outcomes.{refused_17, refused_archive, done_none, left_passes, done_some}
 use Rattle.grid.proofs.insert_grid.Goals as goal
 
 pub returns-then-grid-ne0 : goal.returns-then-grid-ne0
-returns-then-grid-ne0 c = refused_17 _ _ c.if-grid-ne0.true c.refused.ensures
+returns-then-grid-ne0 c = refused_17 _ _ c.if-grid-ne0.true refl
 
-pub returns-then-refused-ne0 : goal.returns-then-refused-ne0
-returns-then-refused-ne0 c = refused_archive _ _ _ c.if-grid-ne0.false c.refusal-refused.ensures c.if-refused-ne0.true c.refused-then-refused-ne0.ensures
+pub returns-in_err-refusal : goal.returns-in_err-refusal
+returns-in_err-refusal c =
+    let p = err_from_is_err_and c.from_residual.result c.from_residual.ensures.1 in
+    rw (p.1, p.2) (refused_archive _ _ _ c.if-grid-ne0.false c.in_err-refusal.ensures (number_positive _) refl)
 
-pub fill-answer-requires : goal.fill-answer-requires
-fill-answer-requires c =
-    let passes : archive_rows c.args.w.now 0 ≡ 0 = sym c.refusal-refused.ensures ∙ c.if-refused-ne0.false in
-    passes
-
-pub returns-then-answer-eq0 : goal.returns-then-answer-eq0
-returns-then-answer-eq0 c =
-    let four : length c.args.grid.now % 4 ≡ 0 = c.if-grid-ne0.false in
-    let passes : archive_rows c.args.w.now 0 ≡ 0 = sym c.refusal-refused.ensures ∙ c.if-refused-ne0.false in
-    done_none _ _ _ _ (four) (passes) c.fill-answer.ensures c.if-answer-eq0.true
+pub returns-then-filled-eq0 : goal.returns-then-filled-eq0
+returns-then-filled-eq0 c =
+    done_none _ _ _ _ c.if-grid-ne0.false (sym c.in_ok-refusal.ensures) c.fill-filled.ensures c.if-filled-eq0.true
 
 pub renew-requires : goal.renew-requires
-renew-requires c =
-    let four : length c.args.grid.now % 4 ≡ 0 = c.if-grid-ne0.false in
-    let passes : archive_rows c.args.w.now 0 ≡ 0 = sym c.refusal-refused.ensures ∙ c.if-refused-ne0.false in
-    left_passes _ _ _ _ (four) (passes) c.fill-answer.ensures
+renew-requires c = left_passes _ _ _ _ c.if-grid-ne0.false (sym c.in_ok-refusal.ensures) c.fill-filled.ensures
 
 pub returns : goal.returns
-returns c =
-    let four : length c.args.grid.now % 4 ≡ 0 = c.if-grid-ne0.false in
-    let passes : archive_rows c.args.w.now 0 ≡ 0 = sym c.refusal-refused.ensures ∙ c.if-refused-ne0.false in
-    done_some _ _ _ _ (four) (passes) c.fill-answer.ensures c.if-answer-eq0.false c.renew.ensures
+returns c = done_some _ _ _ _ c.if-grid-ne0.false (sym c.in_ok-refusal.ensures) c.fill-filled.ensures c.if-filled-eq0.false c.renew.ensures
