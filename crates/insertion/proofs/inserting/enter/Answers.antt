@@ -20,9 +20,6 @@ module _ (c : After-new-p) where
   admits : admission_rows (read c.args.w.now) (as_trial c.args.row.number c.new-p.result.at) 0 ≡ 0
   admits = ap (λ t. admission_rows (read c.args.w.now) t 0) given ∙ sym c.in_ok-admission.ensures
 
-pub admission-requires : goal.admission-requires
-admission-requires c = c.requires.0
-
 pub returns-in_err-admission : goal.returns-in_err-admission
 returns-in_err-admission c =
     let p = err_from_is_err_and c.from_residual.result c.from_residual.ensures.1 in
@@ -32,9 +29,6 @@ pub new-p-requires : goal.new-p-requires
 new-p-requires c =
     let small = coordinates_small _ (admitted _ _ c.requires.0 (sym c.in_ok-admission.ensures)).coordinates in
     (omega (arith, small 0), omega (arith, small 1), omega (arith, small 2))
-
-pub put_in-requires : goal.put_in-requires
-put_in-requires c = (c.requires.0, admits (goal.at.put_in-requires c).After-new-p, c.requires.1)
 
 pub returns : goal.returns
 returns c =

@@ -24,9 +24,6 @@ returns-in_err-refusal c =
     let p = err_from_is_err_and c.from_residual.result c.from_residual.ensures.1 in
     rw (p.1, p.2) (insert_refused _ _ _ c.in_err-refusal.ensures (number_positive _))
 
-pub enter_alone-requires : goal.enter_alone-requires
-enter_alone-requires c = sym c.in_ok-refusal.ensures
-
 pub returns-in_err-enter_alone : goal.returns-in_err-enter_alone
 returns-in_err-enter_alone c =
     let p = err_from_is_err_and c.from_residual-in_err-enter_alone.result c.from_residual-in_err-enter_alone.ensures.1 in

@@ -1,7 +1,6 @@
 -- `judge` meets its contract: row 13 by the total, or by a contribution, or neither.
 use Prim.Native.Nat.{ℕ, ◌≤◌}
 use mathlib.Core.Path.{◌≡◌, refl, sym, ap, ◌∙◌}
-use native.Mathlib.Nat.{le_refl}
 use native.Mathlib.Omega.{arith}
 use lib.ListN.{length}
 use lib.Seq.{length-take-le}
@@ -42,9 +41,6 @@ boxed c = c.box_of.ensures ∙ ap box c.reference_of.ensures
 
 pub bounds-w-0 : goal.bounds-w-0
 bounds-w-0 c = omega (arith, known c.args.w.now c.requires.0)
-
-pub count_joints_in-counted-requires : goal.count_joints_in-counted-requires
-count_joints_in-counted-requires c = (c.requires.0, le_refl _, c.requires.1, c.requires.2)
 
 pub box_of-requires : goal.box_of-requires
 box_of-requires c = reference_small _ _ (known c.args.w.now c.requires.0).shaped c.reference_of.ensures

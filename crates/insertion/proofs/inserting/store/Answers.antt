@@ -25,14 +25,8 @@ enter_at-requires c = omega (arith, known c.args.w.now c.requires.passes, c.requ
 pub overflow_add-w : goal.overflow_add-w
 overflow_add-w c = omega (arith, known c.args.w.now c.requires.passes)
 
-pub bounds-w-0-2 : goal.bounds-w-0-2
-bounds-w-0-2 c = omega (arith, known c.args.w.now c.requires.passes, c.lower_at.auto.w, c.enter_at.auto.w)
-
 pub bounds-w-5-2 : goal.bounds-w-5-2
 bounds-w-5-2 c = simp length-set (omega (arith, known c.args.w.now c.requires.passes, c.lower_at.auto.w, c.enter_at.auto.w))
-
-pub shape_of-w : goal.shape_of-w
-shape_of-w c = simp length-set (omega (arith, c.lower_at.auto.w, c.enter_at.auto.w))
 
 pub returns : goal.returns
 returns c = insertion_stored _ _ _ _ _ _ _ _ _ c.requires c.rank-k.ensures c.lower_at.ensures c.enter_at.ensures refl

@@ -46,12 +46,6 @@ boxed : (c : After-box_of) → c.box_of.result ≡ box_of (read c.args.w.now)
 unfolding read
 boxed c = c.box_of.ensures ∙ ap box c.reference_of.ensures
 
-pub bounds-w-0 : goal.bounds-w-0
-bounds-w-0 c = omega (arith, known c.args.w.now c.requires.0)
-
-pub record_at-requires : goal.record_at-requires
-record_at-requires c = (c.requires.0, c.requires.1)
-
 pub count_joints-counted-requires : goal.count_joints-counted-requires
 count_joints-counted-requires c =
     let here = read_point (goal.at.count_joints-counted-requires c).After-record_at in
@@ -78,9 +72,6 @@ slice_bounds-within-end-3 c = in_counts (goal.at.slice_bounds-within-end-3 c).Af
 
 pub slice_bounds-within-end-4 : goal.slice_bounds-within-end-4
 slice_bounds-within-end-4 c = sym (length-take-le _ _ (in_counts (goal.at.slice_bounds-within-end-4 c).After-count_joints-counted))
-
-pub reference_of-requires : goal.reference_of-requires
-reference_of-requires c = c.requires.0
 
 pub box_of-requires : goal.box_of-requires
 box_of-requires c = reference_small _ _ (known c.args.w.now c.requires.0).shaped c.reference_of.ensures

@@ -18,8 +18,5 @@ find-requires c = (known c.args.w.now (sym c.in_ok-refusal.ensures)).records_lon
 pub returns-in_default : goal.returns-in_default
 returns-in_default c = remove_not_held c.args.w.now _ _ (sym c.in_ok-refusal.ensures) c.in_default.ensures.found (le_refl _)
 
-pub take_out-requires : goal.take_out-requires
-take_out-requires c = (sym c.in_ok-refusal.ensures, c.in-Some.ensures.within)
-
 pub returns : goal.returns
 returns c = remove_out c.args.w.now _ _ _ _ (sym c.in_ok-refusal.ensures) c.in-Some.ensures.found c.in-Some.ensures.within c.take_out.ensures.answer c.take_out.ensures.words

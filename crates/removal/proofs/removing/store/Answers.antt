@@ -6,12 +6,6 @@ use Rattle.calls.proofs.Known.{known}
 use Rattle.removal.proofs.removing.Storing.{raising_asked, removal_stored}
 use Rattle.removal.proofs.removing.store.Goals as goal
 
-pub bounds-w-0 : goal.bounds-w-0
-bounds-w-0 c = omega (arith, known c.args.w.now c.requires.passes)
-
-pub overflow_sub-m : goal.overflow_sub-m
-overflow_sub-m c = omega (arith, c.requires.inside)
-
 pub bounds-w-5 : goal.bounds-w-5
 bounds-w-5 c = omega (arith, known c.args.w.now c.requires.passes)
 
@@ -22,17 +16,11 @@ pub raise_at-requires : goal.raise_at-requires
 raise_at-requires c =
     record { n_in_bounds = (omega (arith, known c.args.w.now c.requires.passes, c.strike.auto.w), c.requires.placed); each = raising_asked c.args.w.now _ c.requires refl refl c.strike.ensures }
 
-pub bounds-w-0-2 : goal.bounds-w-0-2
-bounds-w-0-2 c = omega (arith, known c.args.w.now c.requires.passes, c.strike.auto.w, c.raise_at.auto.w)
-
 pub bounds-w-5-2 : goal.bounds-w-5-2
 bounds-w-5-2 c = simp length-set (omega (arith, known c.args.w.now c.requires.passes, c.strike.auto.w, c.raise_at.auto.w))
 
 pub bounds-w-6 : goal.bounds-w-6
 bounds-w-6 c = simp length-set (omega (arith, known c.args.w.now c.requires.passes, c.strike.auto.w, c.raise_at.auto.w))
-
-pub shape_of-w : goal.shape_of-w
-shape_of-w c = simp length-set (omega (arith, c.strike.auto.w, c.raise_at.auto.w))
 
 pub returns : goal.returns
 returns c =

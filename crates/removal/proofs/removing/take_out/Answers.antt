@@ -20,9 +20,6 @@ module _ (c : In_ok-moved) where
   in_counts : c.in_ok-moved.moved.places ≤ length c.raised.new.counts
   in_counts = omega (arith, places_few c.in_ok-moved.ensures c.requires.0, c.raised.auto)
 
-pub raised-requires : goal.raised-requires
-raised-requires c = (c.requires.0, c.requires.1, search rules, search rules)
-
 pub returns-in_err-moved : goal.returns-in_err-moved
 returns-in_err-moved c =
     let p = err_from_is_err_and c.from_residual.result c.from_residual.ensures.1 in
