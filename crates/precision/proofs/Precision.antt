@@ -21,8 +21,7 @@ use Rattle.layers.proofs.Layers.{AllFit, layers_fit, those_none, add_up}
 use Rattle.doubles.specs.Doubles.{Whole, number_of, zero_double, sum_from, About}
 use Rattle.doubles.proofs.Summing.{exact, close}
 use Rattle.volume.specs.declared.Corner.{Corner}
-use Rattle.volume.specs.declared.Volume.TheVariants.{Cells}
-use Rattle.volume.specs.Volume.{corner, points_of, volume_rows, figure_of, figure, volume_or, volume}
+use Rattle.volume.specs.Volume.{Cells, corner, points_of, volume_rows, figure_of, figure, volume_or, volume}
 use Rattle.precision.specs.Precision.{VolumeIsPrecise}
 use Rattle.volume.proofs.Reading.{points_many}
 use Rattle.volume.proofs.Outcomes.{corner_small}

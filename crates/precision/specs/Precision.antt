@@ -5,8 +5,7 @@ use Rattle.hypervolume.specs.Cells.{box}
 use Rattle.hypervolume.specs.Counts.{total}
 use Rattle.doubles.specs.Doubles.{Whole, zero_double, About}
 use Rattle.volume.specs.declared.Corner.{Corner}
-use Rattle.volume.specs.declared.Volume.TheVariants.{Cells}
-use Rattle.volume.specs.Volume.{corner, points_of, volume_rows, figure, volume}
+use Rattle.volume.specs.Volume.{Cells, corner, points_of, volume_rows, figure, volume}
 
 pub record VolumeIsPrecise : Type 0 where
   -- where the call is not refused, it answers the figure
