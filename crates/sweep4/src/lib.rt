@@ -18,10 +18,8 @@ fn load_keys(coords: &[u64], keys: &mut [u32])
     requires { Readable coords.now × (length keys.old ≡ length coords.now / 4) }
     ensures { Keyed 3 (points_of coords.now) keys.new }
 {
-    let mut i = 0;
-    while i < keys.len() {
+    for i in 0..keys.len() {
         keys[i] = coords[4 * i + 3] as u32 * 512 + i as u32;
-        i += 1;
     }
 }
 
@@ -63,8 +61,7 @@ fn pass_all(
     let mut line = [0u64; 512];
     let mut counts = [0u64; 512];
     let mut total: u64 = 0;
-    let mut i: usize = 0;
-    while i < keys.len() {
+    for i in 0..keys.len() {
         let place = (keys[i] % 512) as usize;
         let p = read_point(coords, place);
         let height = height_of(keys, i, rw);
@@ -82,8 +79,7 @@ fn pass_all(
             &mut line,
             &mut counts,
         );
-        total = total + gained;
-        i += 1;
+        total += gained;
     }
     total
 }
@@ -94,11 +90,9 @@ fn put_back(total: u64, own: &[u64], whose: &[u64], out: &mut [u64])
     ensures { out.new ≡ total ∷ spread (drop 1 out.old) whose.now own.now }
 {
     out[0] = total;
-    let mut i = 0;
-    while i < whose.len() {
+    for i in 0..whose.len() {
         let place = whose[i] as usize;
         out[place + 1] = own[i];
-        i += 1;
     }
 }
 
