@@ -46,10 +46,6 @@ at_place f [] j d l = absurd (let no' : ⊥ = omega arith in no')
 at_place f (r ∷ rows) zero d l = refl
 at_place f (r ∷ rows) (suc j) d l = at_place f rows j d (omega arith)
 
-length_joints : (r u : List ℕ) (rows : List Row) → length (joints r (points (trials rows)) u) ≡ length rows
-unfolding joints
-length_joints r u rows = length_each _ rows
-
 joints_at : (r u : List ℕ) (rows : List Row) (j : ℕ) (d : Row) → j < length rows
     → get_or (joints r (points (trials rows)) u) j 0 ≡ joint r (u ∷ points (trials rows)) u (point (get_or rows j d).trial)
 unfolding joints
