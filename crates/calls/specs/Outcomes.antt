@@ -35,7 +35,7 @@ abbrev pub grid_answer_of : Result Filled Refusal → GridAnswer
 grid_answer_of (Ok filled) = record { refusal = 0; inserted = filled.inserted; stop = number_or filled.stop }
 grid_answer_of (Err refusal) = record { refusal = number_of refusal; inserted = 0; stop = 0 }
 
--- A difference.
-abbrev pub change_of : Result ℤ Refusal → Change
-change_of (Ok difference) = record { refusal = 0; difference = difference }
-change_of (Err refusal) = record { refusal = number_of refusal; difference = pos 0 }
+-- The effect of a replacement: a difference.
+abbrev pub effect_answer_of : Result ℤ Refusal → Change
+effect_answer_of (Ok difference) = record { refusal = 0; difference = difference }
+effect_answer_of (Err refusal) = record { refusal = number_of refusal; difference = pos 0 }

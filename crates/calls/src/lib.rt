@@ -3,7 +3,7 @@
 #![tactic(auto)]
 
 ghost use Rattle.std.specs.Prelude.{◌≡◌};
-ghost use Rattle.calls.specs.Outcomes.{answer_of, verdict_of, least_answer_of, grid_answer_of, change_of, number_or};
+ghost use Rattle.calls.specs.Outcomes.{answer_of, verdict_of, least_answer_of, grid_answer_of, effect_answer_of, number_or};
 
 use refusals::Refusal;
 
@@ -137,7 +137,7 @@ pub struct Change {
 }
 
 impl From<Result<i64, Refusal>> for Change {
-    ghost from_gives = { λ found change. change ≡ change_of found };
+    ghost from_gives = { λ found change. change ≡ effect_answer_of found };
 
     fn from(found: Result<i64, Refusal>) -> Change {
         match found {

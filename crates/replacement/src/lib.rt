@@ -9,7 +9,7 @@ ghost use Rattle.words.specs.Layout.{word};
 ghost use Rattle.words.specs.Format.{archive_rows};
 ghost use Rattle.words.specs.Places.{as_row, row_at};
 ghost use Rattle.calls.specs.Lent.{trial_of};
-ghost use Rattle.calls.specs.Outcomes.{change_of};
+ghost use Rattle.calls.specs.Outcomes.{effect_answer_of};
 ghost use Rattle.calls.specs.Replacement.{difference, replace_effect};
 ghost use Rattle.replacement.specs.Others.{gain_but};
 
@@ -51,7 +51,7 @@ fn change_at(w: &[u64], i: usize, p: Point) -> i64
 // Rows 9 and 6.
 fn replace_in(w: &[u64], number: u64, row: Row) -> Result<i64, Refusal>
     requires { archive_rows w.now 0 ≡ 0 }
-    ensures { change_of result ≡ replace_effect w.now number (as_row row).trial }
+    ensures { effect_answer_of result ≡ replace_effect w.now number (as_row row).trial }
 {
     let i = find(w, number).ok_or(Refusal::NotHeld)?;
     if !coordinates_allowed(row) {
@@ -63,7 +63,7 @@ fn replace_in(w: &[u64], number: u64, row: Row) -> Result<i64, Refusal>
 
 // Replace-effect (number, point): the total afterwards less the total before.
 pub fn replace_effect(w: &[u64], number: u64, x: u64, y: u64, z: u64) -> Result<i64, Refusal>
-    ensures { change_of result ≡ replace_effect w.now number (trial_of 0 x y z) }
+    ensures { effect_answer_of result ≡ replace_effect w.now number (trial_of 0 x y z) }
 {
     refusal(w)?;
     replace_in(
