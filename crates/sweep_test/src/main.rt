@@ -6,7 +6,6 @@ ghost use Rattle.std.specs.Prelude.{◌≡◌, ◌≤◌, ◌<◌, length};
 ghost use Rattle.hypervolume.specs.Sorted.{Small, Sorted};
 
 use hypervolume::Point;
-use hypervolume::number::less;
 use testing::noise;
 
 // Numbers at the limits of 0, of a coordinate, of 31 and of 32 bits, each beside its neighbours.
@@ -17,7 +16,7 @@ const LIMITS: [u32; 12] = [
 
 // Whether the edge length is what a comparison of the two gives.
 fn edge_agrees(reference: u32, x: u32) -> bool {
-    hypervolume::edge(reference, x) == less(reference as u64, x as u64)
+    hypervolume::edge(reference, x) == u64::from(reference.saturating_sub(x))
 }
 
 // How many of the 144 pairs of these numbers have another edge length.
@@ -66,36 +65,25 @@ fn coordinate(points: &[[u32; 3]], i: usize) -> u32 {
 }
 
 // The coordinates, as the direct count takes them; the points behind the end dominate no cell.
-fn coordinates(points: &[[u32; 3]]) -> [u32; 36]
-    ensures { 36 ≡ length result }
-{
-    let mut all = [8u32; 36];
-    for i in 0..36usize {
-        all[i] = coordinate(points, i);
-    }
-    all
+fn coordinates(points: &[[u32; 3]]) -> [u32; 36] {
+    std::array::from_fn(|i| coordinate(points, i))
 }
 
 // The counts at their places, and 0 at all others.
-fn spread(places: &[u16], counts: &[u64]) -> [u64; 12]
-    ensures { 12 ≡ length result }
-{
+fn spread(places: &[u16], counts: &[u64]) -> [u64; 12] {
     let mut all = [0u64; 12];
-    for (k, place) in places.iter().enumerate() {
-        testing::put(&mut all, *place as usize, testing::at(counts, k));
+    for (place, count) in places.iter().zip(counts) {
+        testing::put(&mut all, *place as usize, *count);
     }
     all
 }
 
 // Whether the n counts in `out` are right: of each point's corner with u, the cells that one point alone dominates.
 fn right(points: &[u32], reference: Point, u: Point, out: &[u64], n: usize) -> bool {
-    for t in 0..n {
+    (0..n).all(|t| {
         let corner = u.join(testing::point_at(points, t));
-        if testing::cells(points, reference, corner, 1, 1) != testing::at(out, t) {
-            return false;
-        }
-    }
-    true
+        testing::cells(points, reference, corner, 1, 1) == testing::at(out, t)
+    })
 }
 
 // Whether the sweep agrees with the direct count.
@@ -146,13 +134,7 @@ fn agrees(set: u64) -> bool {
 
 // How many of 400 sets differ from the direct count.
 fn sets_differ() -> u64 {
-    let mut differ: u64 = 0;
-    for set in 0..400u64 {
-        if !agrees(set) {
-            differ += 1;
-        }
-    }
-    differ
+    (0..400u64).filter(|set| !agrees(*set)).count() as u64
 }
 
 fn main(rt: HostRuntime) {
