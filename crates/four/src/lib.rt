@@ -2,68 +2,47 @@
 #![tactic(auto)]
 
 ghost use Rattle.std.specs.Prelude.{◌≡◌, ◌∷◌, []};
-ghost use Rattle.words.specs.Format.{within, each};
+ghost use Rattle.refusals.specs.Table.{outcome};
 ghost use Rattle.four.specs.Count4.{count4_rows, count4, counted4};
 
 use hypervolume::Point;
-use slices::both;
-use words::within;
-
-fn reference_allowed(rx: u64, ry: u64, rz: u64, rw: u64) -> bool
-    ensures { result ≡ each (within 1 32768) (rx ∷ ry ∷ rz ∷ rw ∷ []) }
-{
-    both(
-        within(1, 32768, rx),
-        both(
-            within(1, 32768, ry),
-            both(within(1, 32768, rz), within(1, 32768, rw)),
-        ),
-    )
-}
-
-fn coordinates_allowed(coords: &[u64]) -> bool
-    ensures { result ≡ each (within 0 32768) coords.now }
-{
-    let mut i = 0;
-    while i < coords.len() {
-        if 32768 < coords[i] {
-            return false;
-        }
-        i += 1;
-    }
-    true
-}
+use refusals::Refusal;
+use words::each_within;
 
 // Rows 4, 17, 20, 6 and 16, in this order.
-fn refusal(rx: u64, ry: u64, rz: u64, rw: u64, coords: &[u64], room: usize) -> u64
-    ensures { result ≡ count4_rows (rx ∷ ry ∷ rz ∷ rw ∷ []) coords.now room }
+fn refusal(reference: &[u64], coords: &[u64], room: usize) -> Result<(), Refusal>
+    ensures { outcome result ≡ count4_rows reference.now coords.now room }
 {
-    if !reference_allowed(rx, ry, rz, rw) {
-        return 4;
+    if !each_within(1, 32768, reference) {
+        return Err(Refusal::BadStart);
     }
     if coords.len() % 4 != 0 {
-        return 17;
+        return Err(Refusal::BadLength);
     }
     if 512 < coords.len() / 4 {
-        return 20;
+        return Err(Refusal::TooManyPoints);
     }
-    if !coordinates_allowed(coords) {
-        return 6;
+    if !each_within(0, 32768, coords) {
+        return Err(Refusal::BadCoordinate);
     }
     if room < coords.len() / 4 + 1 {
-        return 16;
+        return Err(Refusal::OutputShort);
     }
-    0
+    Ok(())
 }
 
-// Count4 (reference, coordinates, output). Answers 0 when done.
-pub fn count4(rx: u64, ry: u64, rz: u64, rw: u64, coords: &[u64], out: &mut [u64]) -> u64
-    ensures { (result ≡ count4 (rx ∷ ry ∷ rz ∷ rw ∷ []) coords.now out.old) × (out.new ≡ counted4 (rx ∷ ry ∷ rz ∷ rw ∷ []) coords.now out.old) }
+// Count4 (reference, coordinates, output).
+pub fn count4(
+    rx: u64,
+    ry: u64,
+    rz: u64,
+    rw: u64,
+    coords: &[u64],
+    out: &mut [u64],
+) -> Result<(), Refusal>
+    ensures { (outcome result ≡ count4 (rx ∷ ry ∷ rz ∷ rw ∷ []) coords.now out.old) × (out.new ≡ counted4 (rx ∷ ry ∷ rz ∷ rw ∷ []) coords.now out.old) }
 {
-    let row = refusal(rx, ry, rz, rw, coords, out.len());
-    if row != 0 {
-        return row;
-    }
+    refusal(&[rx, ry, rz, rw], coords, out.len())?;
     sweep4::count(coords, Point::new(rx, ry, rz), rw as u32, out);
-    0
+    Ok(())
 }
