@@ -1,11 +1,9 @@
 -- A field (document 01, "Card and report"): which bytes are of its form, and its value; none stands for bytes
 -- that are not. A byte is a number below 256. The form is the same at every width; a card's fields have eight
 -- bytes.
-use Rattle.std.specs.Prelude.{ℕ, ◌+◌, ◌-◌, ◌*◌, ◌≤◌, ◌<◌, Bool, ◌&&◌, List, ◌∷◌, [], leb, eqb, length, take, drop}
+use Rattle.std.specs.Prelude.{ℕ, ◌+◌, ◌-◌, ◌*◌, ◌≤◌, ◌<◌, Bool, ◌&&◌, List, ◌∷◌, [], leb, eqb, length, take, drop, Option as Answer, None, Some}
 use Rattle.std.proofs.Math.Option.{Option, none, some}
 use Rattle.slices.specs.Choices.{pick}
-use Rattle.text.specs.declared.Field.{Field}
-use Rattle.text.specs.declared.Field.TheVariants.{Value, Malformed}
 
 -- The byte that fills a field in front of its number.
 abbrev pub space : ℕ
@@ -39,9 +37,9 @@ unfoldable pub field_from : ℕ → List ℕ → Option ℕ
 field_from at bytes = field (take 8 (drop at bytes))
 
 -- What the reading of a field answers: its value, or that it is not of the form (on a card, row 15).
-abbrev pub value_of : Field → Option ℕ
-value_of (Value v) = some v
-value_of Malformed = none
+abbrev pub value_of : Answer ℕ → Option ℕ
+value_of (Some v) = some v
+value_of None = none
 
 -- What reading a number from `at` up to `end` asks: at least one byte, within the card, no more than a field has.
 pub record Part (card : List ℕ) (at end : ℕ) : Type 0 where

@@ -4,16 +4,13 @@
 ghost use Rattle.std.specs.Prelude.{◌+◌, ◌≤◌, length};
 
 use testing::{at, one, print};
-use text::{Field, Line};
+use text::Line;
 
 // One more than the value of the field at a byte; 0 where it is not of the form.
 fn value(fields: &[u8], from: usize) -> u64
     requires { from + 8 ≤ length fields.now }
 {
-    match text::field_at(fields, from) {
-        Field::Value(v) => v % 100000000 + 1,
-        Field::Malformed => 0,
-    }
+    text::field_at(fields, from).map_or(0, |v| v % 100000000 + 1)
 }
 
 // How many of the fields, one behind the other, have these values; 0 behind the last.
@@ -42,27 +39,25 @@ fn damaged_fields() -> u64 {
 
 // 1 where the line at byte `at` has the values 8, 1, 22 and 333, 2 where it has others, 0 where it is not of the form.
 fn line(card: &[u8], at: usize) -> u64 {
-    let Line::Values {
-        first,
-        second,
-        third,
-        fourth,
-    } = text::line_at(card, at)
-    else {
-        return 0;
-    };
-    if first == 8 && second == 1 && third == 22 && fourth == 333 {
-        1
-    } else {
-        2
+    match text::line_at(card, at) {
+        Some(
+            Line {
+                first: 8,
+                second: 1,
+                third: 22,
+                fourth: 333,
+            },
+        ) => 1,
+        Some(_) => 2,
+        None => 0,
     }
 }
 
 // How many of the lines at these bytes are so.
 fn lines_so(card: &[u8], places: &[usize], due: u64) -> u64 {
     let mut found: u64 = 0;
-    for place in places {
-        found = found % 1000 + one(line(card, *place) == due);
+    for &place in places {
+        found = found % 1000 + one(line(card, place) == due);
     }
     found
 }
@@ -93,8 +88,7 @@ fn lines() -> u64 {
 // Writes the values into columns of these widths one behind the other, from byte 1 on, while there is room.
 fn write(out: &mut [u8], widths: &[usize], values: &[u64]) {
     let mut from: usize = 1;
-    for (t, width) in widths.iter().enumerate() {
-        let width = *width;
+    for (t, &width) in widths.iter().enumerate() {
         if width == 0 || out.len() < width || out.len() - width < from {
             return;
         }

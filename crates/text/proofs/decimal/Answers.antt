@@ -1,7 +1,7 @@
 -- `text::decimal` meets its contract: each turn takes one digit (proofs/FieldAt, Valued).
 use mathlib.Core.Path.{sym, ◌∙◌}
 use native.Mathlib.Omega.{arith}
-use Rattle.text.proofs.Fields.{digit_low, digit_high}
+use Rattle.text.specs.Fields.{is_digit}
 use Rattle.text.proofs.FieldAt.{valued_none, valued_small, valued_more, valued_stop, valued_end}
 use Rattle.text.proofs.decimal.Goals as goal
 
@@ -15,30 +15,23 @@ overflow_mul-v c =
       valued_small c.requires c.loop-i.invariant,
     )
 
-pub overflow_sub-b : goal.overflow_sub-b
-overflow_sub-b c = digit_low _ (sym c.is_digit.ensures ∙ c.if-is_digit.true)
-
 pub overflow_add-v : goal.overflow_add-v
-overflow_add-v c =
-    omega (
-      arith,
-      valued_small c.requires c.loop-i.invariant,
-      digit_high _ (sym c.is_digit.ensures ∙ c.if-is_digit.true),
-      c.wide.ensures,
-    )
+overflow_add-v c = omega (arith, valued_small c.requires c.loop-i.invariant, c.from.ensures)
 
 pub loop-i-preserved : goal.loop-i-preserved
+unfolding is_digit
 loop-i-preserved c =
     valued_more c.requires c.loop-i.invariant
     c.loop-i-test.true
-    (sym c.is_digit.ensures ∙ c.if-is_digit.true)
-    c.wide.ensures
+    (sym c.is_ascii_digit.ensures.value ∙ c.if-not-is_ascii_digit.false)
+    c.from.ensures
 
-pub returns-else-is_digit : goal.returns-else-is_digit
-returns-else-is_digit c =
+pub returns-then-not-is_ascii_digit : goal.returns-then-not-is_ascii_digit
+unfolding is_digit
+returns-then-not-is_ascii_digit c =
     valued_stop c.requires c.loop-i.invariant
     c.loop-i-test.true
-    (sym c.is_digit.ensures ∙ c.if-is_digit.false)
+    (sym c.is_ascii_digit.ensures.value ∙ c.if-not-is_ascii_digit.true)
 
 pub returns : goal.returns
 returns c = valued_end c.requires c.loop-i.invariant c.loop-i-test.false

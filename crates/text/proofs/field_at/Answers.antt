@@ -9,18 +9,18 @@ loop-i-init c = skipped_none _ _ c.requires
 pub loop-i-preserved : goal.loop-i-preserved
 loop-i-preserved c =
     skipped_more c.requires c.loop-i.invariant c.loop-i-test.true
-    c.if-s-i-eq32.true
+    c.if-s-i-ne32.false
 
 pub number-requires : goal.number-requires
 number-requires c =
     skipped_part c.requires c.loop-i.invariant c.loop-i-test.true
 
-pub returns-else-s-i-eq32 : goal.returns-else-s-i-eq32
-returns-else-s-i-eq32 c =
+pub returns-then-s-i-ne32 : goal.returns-then-s-i-ne32
+returns-then-s-i-ne32 c =
     c.number.ensures
     ∙ skipped_stop c.requires c.loop-i.invariant
     c.loop-i-test.true
-    c.if-s-i-eq32.false
+    c.if-s-i-ne32.true
 
 pub returns : goal.returns
 returns c = skipped_end c.requires c.loop-i.invariant c.loop-i-test.false

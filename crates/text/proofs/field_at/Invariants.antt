@@ -1,10 +1,6 @@
 -- `text::field_at` meets its contract: each turn skips one space (proofs/FieldAt, Skipped).
-use Prim.Native.Nat.{◌-◌}
 use Rattle.text.proofs.FieldAt.{Skipped}
 use Rattle.text.proofs.field_at.Given as goal
 
 abbrev pub invariant-loop-i : goal.invariant-loop-i
 invariant-loop-i l = Skipped l.s l.at l.i
-
-abbrev pub decreases-loop-i : goal.decreases-loop-i
-decreases-loop-i l = l.end - l.i
