@@ -1,7 +1,7 @@
 -- A field (document 01, "Card and report"): which bytes are of its form, and its value; none stands for bytes
 -- that are not. A byte is a number below 256. The form is the same at every width; a card's fields have eight
 -- bytes.
-use Rattle.std.specs.Prelude.{ℕ, ◌+◌, ◌-◌, ◌*◌, ◌≤◌, ◌<◌, Bool, ◌&&◌, List, ◌∷◌, [], leb, eqb, length, take, drop, Option as Answer, None, Some}
+use Rattle.std.specs.Prelude.{ℕ, ◌+◌, ◌-◌, ◌*◌, ◌≤◌, ◌<◌, Bool, ◌&&◌, List, ◌∷◌, [], leb, eqb, length, take, drop, Option as StdOption, None, Some}
 use Rattle.std.proofs.Math.Option.{Option, none, some}
 use Rattle.slices.specs.Choices.{pick}
 
@@ -37,7 +37,7 @@ unfoldable pub field_from : ℕ → List ℕ → Option ℕ
 field_from at bytes = field (take 8 (drop at bytes))
 
 -- What the reading of a field answers: its value, or that it is not of the form (on a card, row 15).
-abbrev pub value_of : Answer ℕ → Option ℕ
+abbrev pub value_of : StdOption ℕ → Option ℕ
 value_of (Some v) = some v
 value_of None = none
 

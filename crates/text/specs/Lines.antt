@@ -1,6 +1,6 @@
 -- A line (document 01, "Card and report"): which bytes are of its form, and its four values; none stands for
 -- bytes that are not.
-use Rattle.std.specs.Prelude.{ℕ, List, eqb, drop, get_or, Option as Answer, None, Some}
+use Rattle.std.specs.Prelude.{ℕ, List, eqb, drop, get_or, Option as StdOption, None, Some}
 use Rattle.std.proofs.Math.Option.{Option, none, some}
 use Rattle.slices.specs.Choices.{pick}
 use Rattle.text.specs.Fields.{field_from}
@@ -38,6 +38,6 @@ unfoldable pub line_from : ℕ → List ℕ → Option Numbers
 line_from at card = line (drop at card)
 
 -- What the reading of a line answers: its four values, or that it is not of the form (on a card, row 15).
-abbrev pub numbers_of : Answer Line → Option Numbers
+abbrev pub numbers_of : StdOption Line → Option Numbers
 numbers_of (Some l) = some (record { first = l.first; second = l.second; third = l.third; fourth = l.fourth })
 numbers_of None = none

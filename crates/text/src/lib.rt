@@ -106,6 +106,6 @@ pub fn put_number(out: &mut [u8], at: usize, width: usize, n: u64)
     out[at + (width - 1)] = last_digit(n);
     for left in (0..width - 1).rev() {
         out[at + left] = digit_or_space(rest);
-        rest = rest / 10;
+        rest /= 10;
     }
 }
