@@ -3,3 +3,4 @@ pub mod CardLines
 pub mod Judging
 pub mod Verdicts
 pub mod Theorems
+pub mod Refusing

@@ -1,14 +1,13 @@
 -- A card and its loading (document 01, "Card and report"). Loading runs the definitions of start and insert, line by
 -- line.
-use Rattle.std.specs.Prelude.{ℕ, zero, suc, ◌+◌, ◌*◌, ◌/◌, ◌≡◌, List, ◌∷◌, [], ltb, length, drop}
+use Rattle.std.specs.Prelude.{ℕ, zero, suc, ◌+◌, ◌*◌, ◌/◌, ◌≡◌, List, ◌∷◌, [], ltb, length, drop, Option as StdOption, None, Some}
 use Rattle.std.proofs.Math.Option.{Option, none, some}
 use Rattle.slices.specs.Choices.{pick}
+use Rattle.text.specs.declared.Line.{Line}
 use Rattle.text.specs.Lines.{Numbers, line, line_from, numbers_of}
 use Rattle.words.specs.Archive.{Trial, Shape}
 use Rattle.calls.specs.Lent.{Outcome, start, insert}
 use Rattle.card.specs.declared.Loaded.{Loaded}
-use Rattle.card.specs.declared.lines.Due.{Due}
-use Rattle.card.specs.declared.lines.Due.TheVariants.{Next, End}
 
 -- "Line 1: capacity, rx, ry, rz."
 unfoldable pub shape_on : Numbers → Shape
@@ -37,9 +36,9 @@ due card zero = none
 due card (suc i) = pick (ltb i (line_count card)) (some (line_from (33 * i) card)) none
 
 -- What the reading of the line due answers.
-abbrev pub due_of : Due → Option (Option Numbers)
-due_of (Next l) = some (numbers_of l)
-due_of End = none
+abbrev pub due_of : StdOption (StdOption Line) → Option (Option Numbers)
+due_of (Some l) = some (numbers_of l)
+due_of None = none
 
 -- Row 15: "a line not of the form".
 unfoldable pub malformed : List ℕ → Outcome

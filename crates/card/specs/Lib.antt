@@ -6,3 +6,4 @@ pub mod Verdict
 pub mod Further
 pub mod Reading
 pub mod Theorems
+pub mod Outcomes

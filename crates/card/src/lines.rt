@@ -4,14 +4,6 @@ ghost use Rattle.card.specs.Card.{due, due_of};
 
 use text::Line;
 
-// What is due in a reading.
-#[derive(Clone, Copy)]
-pub enum Due {
-    Next(Line),
-    // Behind the last line.
-    End,
-}
-
 // A reading in progress: the lent card together with the line next due, counted from 1.
 #[derive(Clone, Copy)]
 pub struct Reader<'a> {
@@ -19,36 +11,36 @@ pub struct Reader<'a> {
     pub line: usize,
 }
 
-// The work: the line of this number. Bytes after the last line's end are a further line.
-fn line_due(card: &[u8], line: usize) -> Due
+// The work: the line of this number; none behind the last line. A line itself is none where it is not of the form. Bytes after the
+// last line's end are a further line.
+fn line_due(card: &[u8], line: usize) -> Option<Option<Line>>
     ensures { due_of result ≡ due card.now line }
 {
-    if line == 0 {
-        return Due::End;
-    }
-    let i = line - 1;
+    let i = line.checked_sub(1)?;
     if i < (card.len() + 32) / 33 {
-        return Due::Next(text::line_at(card, 33 * i));
+        return Some(text::line_at(card, 33 * i));
     }
-    Due::End
+    None
 }
 
-pub fn new<'a>(card: &'a [u8], line: usize) -> Reader<'a>
-    ensures { (result.card ≡ card.entry) × (result.line ≡ line) }
-{
-    Reader { card, line }
-}
+impl<'a> Reader<'a> {
+    pub fn new(card: &'a [u8], line: usize) -> Reader<'a>
+        ensures { (result.card ≡ card.entry) × (result.line ≡ line) }
+    {
+        Reader { card, line }
+    }
 
-// The line next due.
-pub fn next<'a>(r: Reader<'a>) -> Due
-    ensures { due_of result ≡ due r.entry.card.now r.entry.line }
-{
-    line_due(r.card, r.line)
+    // The line next due.
+    pub fn next(self) -> Option<Option<Line>>
+        ensures { due_of result ≡ due self.entry.card.now self.entry.line }
+    {
+        line_due(self.card, self.line)
+    }
 }
 
 // The line next due in a reading of this card, for callers that hold the card and the line apart.
-pub fn read_line(card: &[u8], line: usize) -> Due
+pub fn read_line(card: &[u8], line: usize) -> Option<Option<Line>>
     ensures { due_of result ≡ due card.now line }
 {
-    next(new(card, line))
+    Reader::new(card, line).next()
 }

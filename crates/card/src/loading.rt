@@ -1,86 +1,72 @@
 // Loading a card: it is judged first, so that a refused card leaves the lent slice as it was.
-ghost use Rattle.std.specs.Prelude.{◌≡◌, length};
+ghost use Rattle.std.specs.Prelude.{◌≡◌, ◌≤◌, length, IfErr};
+ghost use Rattle.refusals.specs.Table.{outcome};
 ghost use Rattle.text.specs.Lines.{numbers_of};
 ghost use Rattle.words.specs.Format.{archive_rows};
 ghost use Rattle.ask.specs.RecordCounts.{Room};
 ghost use Rattle.card.specs.Card.{first_line, load, ReadInto};
-ghost use Rattle.card.specs.Check.{check};
+ghost use Rattle.card.specs.Check.{packed, check};
 ghost use Rattle.card.specs.Reading.{EntersLine};
+ghost use Rattle.card.specs.Outcomes.{loaded_of};
 
-use crate::Loaded;
-use crate::lines::{Due, read_line};
-use crate::verdict::{judge, refused};
+use crate::CardError;
+use crate::lines::read_line;
+use crate::verdict::{at_line, judge};
 use insertion::{enter, start};
 use records::renew;
+use refusals::Refusal;
 use text::Line;
 use words::Row;
 
-// Line 1: the start of the archive. Answers 15, 4, 1 or 0.
-fn first_line(w: &mut [u64], l: Line) -> u64
-    ensures { (result ≡ (first_line w.old (numbers_of l)).refusal) × (w.new ≡ (first_line w.old (numbers_of l)).words) }
+// Line 1: the start of the archive. Refused by row 15, 4 or 1.
+fn first_line(w: &mut [u64], l: Option<Line>) -> Result<(), Refusal>
+    ensures { (outcome result ≡ (first_line w.old (numbers_of l)).refusal) × (w.new ≡ (first_line w.old (numbers_of l)).words) }
 {
-    let Line::Values {
-        first,
-        second,
-        third,
-        fourth,
-    } = l
-    else {
-        return 15;
-    };
-    start(w, second, third, fourth, first)
+    let l = l.ok_or(Refusal::CardForm)?;
+    start(w, l.second, l.third, l.fourth, l.first)
 }
 
-// A further line: its trial entered, with the front as it was. Answers 15, 5 to 8 or 0.
+// A further line: its trial entered, with the front as it was. Refused by row 15, or 5 to 8.
 fn further_line(
     w: &mut [u64],
-    l: Line,
+    l: Option<Line>,
     points: &mut [[u32; 3]],
     corners: &mut [[u32; 3]],
     places: &mut [u16],
     column: &mut [u64],
     counts: &mut [u64],
-) -> u64
+) -> Result<(), Refusal>
     requires { (archive_rows w.old 0 ≡ 0) × Room points.old corners.old places.old column.old counts.old }
-    ensures { EntersLine w.old (numbers_of l) result w.new }
+    ensures { EntersLine w.old (numbers_of l) (outcome result) w.new }
 {
-    let Line::Values {
-        first,
-        second,
-        third,
-        fourth,
-    } = l
-    else {
-        return 15;
-    };
+    let l = l.ok_or(Refusal::CardForm)?;
     let row = Row {
-        number: first,
-        x: second,
-        y: third,
-        z: fourth,
+        number: l.first,
+        x: l.second,
+        y: l.third,
+        z: l.fourth,
         kept: 0,
     };
     enter(w, row, points, corners, places, column, counts)
 }
 
-// Loads the card into these words, line by line, and stops at the first line refused. The front is counted behind the last.
-pub fn read_card(w: &mut [u64], card: &[u8]) -> Loaded
-    ensures { ReadInto (load w.old card.now) result w.new }
+// Loads the card into these words, line by line, and stops at the first line refused. The front is counted behind the last. Answers
+// the count of trials.
+pub fn read_card(w: &mut [u64], card: &[u8]) -> Result<u64, CardError>
+    ensures { ReadInto (load w.old card.now) (loaded_of result) w.new }
 {
-    let Due::Next(first) = read_line(card, 1) else {
-        return refused(15, 1);
-    };
-    let started = first_line(w, first);
-    if started != 0 {
-        return refused(started, 1);
-    }
+    let first = read_line(card, 1).ok_or(CardError {
+        refusal: Refusal::CardForm,
+        line: 1,
+    })?;
+    at_line(first_line(w, first), 1)?;
     let mut points = [[0u32, 0, 0]; 512];
     let mut corners = [[0u32, 0, 0]; 512];
     let mut places = [0u16; 512];
     let mut column = [0u64; 512];
     let mut counts = [0u64; 512];
     let mut line: usize = 2;
-    while let Due::Next(l) = read_line(card, line) {
+    while let Some(l) = read_line(card, line) {
         let entered = further_line(
             w,
             l,
@@ -90,17 +76,11 @@ pub fn read_card(w: &mut [u64], card: &[u8]) -> Loaded
             &mut column,
             &mut counts,
         );
-        if entered != 0 {
-            return refused(entered, line as u64);
-        }
+        at_line(entered, line as u64)?;
         line += 1;
     }
     renew(w);
-    Loaded {
-        refusal: 0,
-        line: 0,
-        count: (line - 2) as u64,
-    }
+    Ok((line - 2) as u64)
 }
 
 // Words that are enough for every capacity.
@@ -112,20 +92,28 @@ pub fn long_enough() -> [u64; 2568]
 
 // Loads the card: the count of trials, or a refusal and its line. Words of the lent slice are written only once the
 // whole card is accepted.
-pub fn load(w: &mut [u64], card: &[u8]) -> Loaded
-    ensures { (result ≡ (load w.old card.now).answer) × (w.new ≡ (load w.old card.now).words) }
+pub fn load(w: &mut [u64], card: &[u8]) -> Result<u64, CardError>
+    ensures { (loaded_of result ≡ (load w.old card.now).answer) × (w.new ≡ (load w.old card.now).words) }
 {
-    let answer = judge(card, w.len());
-    if answer.refusal != 0 {
-        return answer;
-    }
+    judge(card, w.len())?;
     read_card(w, card)
 }
 
-// Checks the card: 0 where it is accepted, else the refusal × 65,536 + the card line.
-pub fn check(card: &[u8]) -> u64
-    ensures { result ≡ check card.now }
+// Checks the card: the count of trials, or a refusal and its line, which is one of the first 514.
+pub fn check(card: &[u8]) -> Result<u64, CardError>
+    ensures answer { packed (loaded_of result) ≡ check card.now }
+    ensures line { IfErr result (λ error. error.line ≤ 514) }
 {
-    let answer = judge(card, 2568);
-    answer.refusal * 65536 + answer.line
+    judge(card, 2568)
+}
+
+// The check's answer as one number: 0 where the card is accepted, else the refusal × 65,536 + the card line.
+pub fn packed(checked: Result<u64, CardError>) -> u64
+    requires { IfErr checked (λ error. error.line ≤ 514) }
+    ensures { result ≡ packed (loaded_of checked) }
+{
+    match checked {
+        Ok(_) => 0,
+        Err(error) => error.refusal.number() * 65536 + error.line,
+    }
 }

@@ -1,60 +1,34 @@
 // The verdict on a card: its lines judged in turn, without counting and without words to load them into.
-ghost use Rattle.std.specs.Prelude.{◌≡◌, false, ◌≤◌, length, drop};
-ghost use Rattle.std.proofs.Math.Option.{some};
+ghost use Rattle.std.specs.Prelude.{◌≡◌, false, ◌≤◌, length, drop, unwrap_or, Some};
+ghost use Rattle.refusals.specs.Table.{outcome};
 ghost use Rattle.text.specs.Lines.{numbers_of};
-ghost use Rattle.words.specs.Format.{guard};
 ghost use Rattle.words.specs.Places.{as_shape};
 ghost use Rattle.calls.specs.Calls.{empty};
 ghost use Rattle.card.specs.Card.{lines, due};
 ghost use Rattle.card.specs.Verdict.{answer_of, judge_further, judge};
 ghost use Rattle.card.specs.Further.{number_due, taken, further_rows};
+ghost use Rattle.card.specs.Outcomes.{loaded_of, at_line};
 
-use crate::Loaded;
-use crate::lines::{Due, read_line};
+use crate::CardError;
+use crate::lines::read_line;
 use insertion::start_row;
+use refusals::Refusal;
 use text::Line;
 use words::{Row, Shape, coordinates_allowed, mark, number_allowed};
 
-// A row of the table: its number where its condition holds, else what the rows after it say.
-fn guard(condition: bool, number: u64, rest: u64) -> u64
-    ensures { result ≡ guard condition number rest }
+// What a line came to, in its card.
+pub fn at_line(done: Result<(), Refusal>, line: u64) -> Result<(), CardError>
+    ensures { result ≡ at_line done line }
 {
-    if condition { number } else { rest }
+    done.map_err(|refusal| CardError { refusal, line })
 }
 
-pub fn refused(refusal: u64, line: u64) -> Loaded
-    ensures { result ≡ record { refusal = refusal; line = line; count = 0 } }
+// The trial number on a further line.
+fn number_at(card: &[u8], line: usize) -> Option<u64>
+    ensures { unwrap_or result 0 ≡ number_due (due card.now line) }
 {
-    Loaded {
-        refusal,
-        line,
-        count: 0,
-    }
-}
-
-// The trial number on a further line. 0 stands for none.
-fn number_on(l: Line) -> u64
-    ensures { result ≡ number_due (some (numbers_of l)) }
-{
-    let Line::Values {
-        first,
-        second: _,
-        third: _,
-        fourth: _,
-    } = l
-    else {
-        return 0;
-    };
-    first
-}
-
-fn number_at(card: &[u8], line: usize) -> u64
-    ensures { result ≡ number_due (due card.now line) }
-{
-    let Due::Next(l) = read_line(card, line) else {
-        return 0;
-    };
-    number_on(l)
+    let l = read_line(card, line)??;
+    Some(l.first)
 }
 
 // Whether one of the first `count` further lines has the number.
@@ -62,10 +36,8 @@ fn search(card: &[u8], count: usize, number: u64) -> bool
     requires { count ≤ length card.now }
     ensures { result ≡ taken card.now count number }
 {
-    let mut i = count;
-    while 0 < i {
-        i -= 1;
-        if number_at(card, i + 2) == number {
+    for i in (0..count).rev() {
+        if number_at(card, i + 2).unwrap_or(0) == number {
             return true;
         }
     }
@@ -83,87 +55,68 @@ fn held(card: &[u8], count: usize, number: u64, met: bool) -> bool
     search(card, count, number)
 }
 
-// A further line, behind `count` others: rows 15 and 5 to 8.
-fn further_row(card: &[u8], capacity: u64, count: usize, l: Line, met: bool) -> u64
-    requires { (count ≤ length card.now) × (met ≡ false → taken card.now count (number_due (some (numbers_of l))) ≡ false) }
-    ensures { result ≡ further_rows capacity count (taken card.now count (number_due (some (numbers_of l)))) (numbers_of l) }
+// A further line of the form, behind `count` others: rows 5 to 8.
+fn further_row(card: &[u8], capacity: u64, count: usize, l: Line, met: bool) -> Result<(), Refusal>
+    requires { (count ≤ length card.now) × (met ≡ false → taken card.now count l.first ≡ false) }
+    ensures { outcome result ≡ further_rows capacity count (taken card.now count l.first) (numbers_of (Some l)) }
 {
-    let Line::Values {
-        first,
-        second,
-        third,
-        fourth,
-    } = l
-    else {
-        return 15;
-    };
     let row = Row {
-        number: first,
-        x: second,
-        y: third,
-        z: fourth,
+        number: l.first,
+        x: l.second,
+        y: l.third,
+        z: l.fourth,
         kept: 0,
     };
-    let allowed = number_allowed(first);
-    let in_range = coordinates_allowed(row);
-    let known = held(card, count, first, met);
-    guard(
-        !allowed,
-        5,
-        guard(
-            !in_range,
-            6,
-            guard(known, 7, guard(count as u64 == capacity, 8, 0)),
-        ),
-    )
+    if !number_allowed(l.first) {
+        return Err(Refusal::BadNumber);
+    }
+    if !coordinates_allowed(row) {
+        return Err(Refusal::BadCoordinate);
+    }
+    let known = held(card, count, l.first, met);
+    if known {
+        return Err(Refusal::NumberHeld);
+    }
+    if count as u64 == capacity {
+        return Err(Refusal::Full);
+    }
+    Ok(())
 }
 
 // The further lines. The table has the numbers of those passed.
-fn judge_further(card: &[u8], s: Shape) -> Loaded
-    ensures { result ≡ answer_of (judge_further (empty (as_shape s)) (lines (drop 33 card.now))) }
+fn judge_further(card: &[u8], s: Shape) -> Result<u64, CardError>
+    ensures { loaded_of result ≡ answer_of (judge_further (empty (as_shape s)) (lines (drop 33 card.now))) }
 {
     let mut table = [0u64; 1024];
     let mut count: usize = 0;
-    while let Due::Next(l) = read_line(card, count + 2) {
-        let met = mark(&mut table, number_on(l));
-        let turned = further_row(card, s.capacity, count, l, met);
-        if turned != 0 {
-            return refused(turned, (count + 2) as u64);
-        }
+    while let Some(l) = read_line(card, count + 2) {
+        let line = count as u64 + 2;
+        let l = l.ok_or(CardError {
+            refusal: Refusal::CardForm,
+            line,
+        })?;
+        let met = mark(&mut table, l.first);
+        at_line(further_row(card, s.capacity, count, l, met), line)?;
         count += 1;
     }
-    Loaded {
-        refusal: 0,
-        line: 0,
-        count: count as u64,
-    }
+    Ok(count as u64)
 }
 
 // Judges the card for a slice of `room` words: the count of trials, or a refusal and its line.
-pub fn judge(card: &[u8], room: usize) -> Loaded
-    ensures { result ≡ answer_of (judge room (lines card.now)) }
+pub fn judge(card: &[u8], room: usize) -> Result<u64, CardError>
+    ensures { loaded_of result ≡ answer_of (judge room (lines card.now)) }
 {
-    let Due::Next(l) = read_line(card, 1) else {
-        return refused(15, 1);
+    let malformed = CardError {
+        refusal: Refusal::CardForm,
+        line: 1,
     };
-    let Line::Values {
-        first,
-        second,
-        third,
-        fourth,
-    } = l
-    else {
-        return refused(15, 1);
-    };
+    let l = read_line(card, 1).flatten().ok_or(malformed)?;
     let s = Shape {
-        capacity: first,
-        rx: second,
-        ry: third,
-        rz: fourth,
+        capacity: l.first,
+        rx: l.second,
+        ry: l.third,
+        rz: l.fourth,
     };
-    let turned = start_row(s, room);
-    if turned != 0 {
-        return refused(turned, 1);
-    }
+    at_line(start_row(s, room), 1)?;
     judge_further(card, s)
 }

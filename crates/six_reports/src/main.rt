@@ -2,35 +2,44 @@
 // the other, or one line for a refused card. Errors of reading and writing as in the report program.
 #![tactic(auto)]
 
+ghost use Rattle.std.specs.Prelude.{◌*◌};
 ghost use Rattle.printing.specs.Printed.{printed};
 ghost use Rattle.sixfold.specs.Six.{six_text};
 ghost use Rattle.streams.specs.Written.{Shows};
 
 use std::io::{Read, Write};
-use streams::{Failure, Reading, fail, read_card, write_text};
+use streams::{Failure, Program, show, tell};
+
+struct Printer;
+
+impl Program for Printer {
+    ghost text = { printed six_text };
+
+    // 514 lines of a card are all that decide, and each of the longest reports has 513: `print` asks for so much
+    // room, and proves that it is enough for a card of any length.
+    ghost card_room = { 33 * 514 };
+
+    ghost text_room = { 318 * 513 };
+
+    fn print(input: &[u8], read: usize, out: &mut [u8]) -> usize {
+        sixfold::print(input, read, out)
+    }
+}
 
 // Reads a card and writes its six reports, or the line of a refused card.
 pub fn six_reports<R: Read, W: Write>(card: &mut R, to: &mut W) -> Result<(), Failure>
     ensures { Shows (R.remaining card.old) (printed six_text) result (W.contents to.old) (W.contents to.new) }
 {
-    // `print` asks for so much room, and proves that it is enough for a card of any length.
     let mut input = [0u8; 33 * 514];
     let mut out = [0u8; 318 * 513];
-    let read = match read_card(card, &mut input) {
-        Reading::Bytes(read) => read,
-        Reading::Failed(error) => return Err(Failure::Reading(error)),
-    };
-    let length = sixfold::print(&input, read, &mut out);
-    match write_text(to, &out[..length]) {
-        Ok(()) => Ok(()),
-        Err(error) => Err(Failure::Writing(error)),
-    }
+    show::<Printer, R, W>(card, &mut input, &mut out, to)
 }
 
 fn main(rt: HostRuntime) {
-    match six_reports(&mut rt.stdin(), &mut rt.stdout()) {
-        Ok(()) => {}
-        Err(Failure::Reading(error)) => fail(&rt, "six_reports: cannot read the card", &error),
-        Err(Failure::Writing(error)) => fail(&rt, "six_reports: cannot write the reports", &error),
-    }
+    tell(
+        &rt,
+        six_reports(&mut rt.stdin(), &mut rt.stdout()),
+        "six_reports: cannot read the card",
+        "six_reports: cannot write the reports",
+    );
 }

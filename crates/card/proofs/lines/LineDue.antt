@@ -23,11 +23,11 @@ pub due_before : (card : List ℕ) {line : ℕ} → line ≡ 0 → none ≡ due 
 unfolding due
 due_before card e = rw e
 
-pub due_next : (card : List ℕ) {line : ℕ} {l : Option Numbers} → (line ≡ 0 → ⊥) → line - 1 < (length card + 32) / 33
-    → l ≡ line_from (33 * (line - 1)) card → some l ≡ due card line
-unfolding pick line_count
-due_next card {line} some-line inside e = rw (due_at card line some-line, lt-ltb (line - 1) ((length card + 32) / 33) inside, e)
+module _ (card : List ℕ) {line i : ℕ} (first : 1 ≤ line) (is : i ≡ line - 1) where
+  pub due_next : {l : Option Numbers} → i < (length card + 32) / 33 → l ≡ line_from (33 * i) card → some l ≡ due card line
+  unfolding pick line_count
+  due_next inside e = rw (e, is, due_at card line (omega arith), lt-ltb (line - 1) ((length card + 32) / 33) (omega arith))
 
-pub due_behind : (card : List ℕ) {line : ℕ} → (line ≡ 0 → ⊥) → (length card + 32) / 33 ≤ line - 1 → none ≡ due card line
-unfolding pick line_count
-due_behind card {line} some-line behind = rw (due_at card line some-line, le-ltb (line - 1) ((length card + 32) / 33) behind)
+  pub due_behind : (length card + 32) / 33 ≤ i → none ≡ due card line
+  unfolding pick line_count
+  due_behind behind = rw (due_at card line (omega arith), le-ltb (line - 1) ((length card + 32) / 33) (omega arith))

@@ -1,14 +1,17 @@
 -- What loading and checking make of a judgement.
-use Prim.Native.Nat.{ℕ, ◌+◌, ◌*◌, ◌≤◌}
+use Prim.Native.Nat.{ℕ, ◌≤◌}
 use mathlib.Core.Path.{◌≡◌, sym, ap, ◌∙◌}
 use mathlib.Core.List.{List}
 use native.Mathlib.Omega.{arith}
 use lib.ListN.{length}
 use Rattle.words.specs.Layout.{extent}
+use Rattle.std.specs.Prelude.{Result, Ok, Err, IfErr}
+use Rattle.card.specs.declared.CardError.{CardError}
 use Rattle.card.specs.declared.Loaded.{Loaded}
 use Rattle.card.specs.Card.{lines, load, ReadInto}
 use Rattle.card.specs.Check.{packed, check}
 use Rattle.card.specs.Verdict.{Verdict, refusal, archive, judge, answer_of}
+use Rattle.card.specs.Outcomes.{loaded_of}
 use Rattle.card.specs.Theorems.{TurnedDown, form, shape, slice, number, coordinate, held, full}
 use Rattle.card.proofs.Verdicts as verdicts
 use Rattle.card.proofs.Theorems.{load_answer, load_stays, check_answer}
@@ -38,10 +41,17 @@ unfolding answer_of
 small (refusal n line) (verdicts.refused d) = small_row d
 small (archive a) (verdicts.accepted f) = (omega arith, omega arith)
 
-module _ (card : List ℕ) {r : Loaded} (judged : r ≡ answer_of (judge 2568 (lines card))) where
-  pub small_answer : (r.refusal ≤ 15) × (r.line ≤ 514)
+module _ (card : List ℕ) (r : Result ℕ CardError) (judged : loaded_of r ≡ answer_of (judge 2568 (lines card))) where
+  small_answer : ((loaded_of r).refusal ≤ 15) × ((loaded_of r).line ≤ 514)
   small_answer = rw judged (small (judge 2568 (lines card)) (verdicts.possible 2568 (lines card)))
 
-  pub checked : r.refusal * 65536 + r.line ≡ check card
-  unfolding packed extent
+  pub checked : packed (loaded_of r) ≡ check card
+  unfolding extent
   checked = ap packed judged ∙ sym (check_answer card)
+
+  pub line_few : IfErr r (λ error. error.line ≤ 514)
+  line_few = at r small_answer.1
+    where
+      at : (r : Result ℕ CardError) → (loaded_of r).line ≤ 514 → IfErr r (λ error. error.line ≤ 514)
+      at (Ok count) l = tt
+      at (Err error) l = l

@@ -8,7 +8,7 @@ use native.Mathlib.Omega.{arith}
 use lib.ListN.{length, drop}
 use Rattle.text.specs.Lines.{Numbers, numbers_of}
 use Rattle.text.specs.declared.Line.{Line}
-use Rattle.text.specs.declared.Line.TheVariants.{Values, Malformed}
+use Rattle.std.specs.Prelude.{Option as StdOption, None, Some}
 use Rattle.hypervolume.specs.Front.{front, unbeaten}
 use Rattle.words.specs.Archive.{Trial, Shape, Archive, trials, points}
 use Rattle.words.specs.Layout.{extent, layout, read, behind}
@@ -32,19 +32,19 @@ use Rattle.card.proofs.Judging.{Fair, insert_rows_fair, inserted_fair, empty_fai
 use Rattle.card.proofs.Verdicts.{few, in_turn_refused, in_turn_passed}
 
 -- A line that is not of the form, and the call that any other line makes.
-module _ (w : List ℕ) {l : Line} where
-  pub first_missing : l ≡ Malformed → malformed w ≡ first_line w (numbers_of l)
+module _ (w : List ℕ) {l : StdOption Line} where
+  pub first_missing : l ≡ None → malformed w ≡ first_line w (numbers_of l)
   unfolding first_line by_form
   first_missing e = rw e
 
-  pub first_called : {a b c d : ℕ} → l ≡ Values a b c d → start w (shape_of a b c d) ≡ first_line w (numbers_of l)
+  pub first_called : {v : Line} → l ≡ Some v → start w (shape_of v.first v.second v.third v.fourth) ≡ first_line w (numbers_of l)
   unfolding first_line by_form shape_on
   first_called e = rw e
 
-pub further_missing : (w : List ℕ) {l : Line} → l ≡ Malformed → EntersLine w (numbers_of l) 15 w
+pub further_missing : (w : List ℕ) {l : StdOption Line} → l ≡ None → EntersLine w (numbers_of l) 15 w
 further_missing w e = rw e (row_15 refl refl)
 
-pub further_entered : {w left : List ℕ} {l : Line} {a b c d r : ℕ} → l ≡ Values a b c d → Enters w (trial_of a b c d) r left → EntersLine w (numbers_of l) r left
+pub further_entered : {w left : List ℕ} {l : StdOption Line} {v : Line} {r : ℕ} → l ≡ Some v → Enters w (trial_of v.first v.second v.third v.fourth) r left → EntersLine w (numbers_of l) r left
 unfolding trial_on
 further_entered e h = rw e (of_the_form h)
 

@@ -1,26 +1,28 @@
--- `card::verdict::further_row` meets its contract: row 15, or rows 5 to 8 in turn.
+-- `card::verdict::further_row` meets its contract, row by row.
+use borrow.Author.Tests.{eq-eqb, ne_eqb}
+use Rattle.words.specs.Format.{guard}
 use Rattle.card.specs.Card.{trial_on}
-use Rattle.card.specs.Further.{number_due, further_rows}
+use Rattle.card.specs.Further.{further_rows}
 use Rattle.card.proofs.verdict.further_row.Goals as goal
 
-pub returns-in_default : goal.returns-in_default
-unfolding further_rows
-returns-in_default c = rw c.in_default.is
+pub returns-then-not-number_allowed : goal.returns-then-not-number_allowed
+unfolding guard further_rows
+returns-then-not-number_allowed c = rw (← c.if-not-number_allowed.ensures)
 
-pub held-known-requires : goal.held-known-requires
-unfolding number_due
-held-known-requires c = rw c.in-Values.is at c.requires
+pub returns-then-not-coordinates_allowed : goal.returns-then-not-coordinates_allowed
+unfolding guard further_rows trial_on
+returns-then-not-coordinates_allowed c = rw (← c.if-not-number_allowed.ensures, ← c.if-not-coordinates_allowed.ensures)
+
+pub returns-then-known : goal.returns-then-known
+unfolding guard further_rows trial_on
+returns-then-known c = rw (← c.if-not-number_allowed.ensures, ← c.if-not-coordinates_allowed.ensures, ← c.if-known.ensures)
+
+pub returns-then-count-capacity : goal.returns-then-count-capacity
+unfolding guard further_rows trial_on
+returns-then-count-capacity c =
+    rw (← c.if-not-number_allowed.ensures, ← c.if-not-coordinates_allowed.ensures, ← c.if-known.ensures, eq-eqb _ _ c.if-count-capacity.true)
 
 pub returns : goal.returns
-unfolding further_rows number_due trial_on
+unfolding guard further_rows trial_on
 returns c =
-    rw (
-      c.in-Values.is,
-      c.guard-4.ensures,
-      c.guard-3.ensures,
-      c.guard-2.ensures,
-      c.guard.ensures,
-      c.held-known.ensures,
-      c.coordinates_allowed-in_range.ensures,
-      c.number_allowed-allowed.ensures,
-    )
+    rw (← c.if-not-number_allowed.ensures, ← c.if-not-coordinates_allowed.ensures, ← c.if-known.ensures, ne_eqb _ _ c.if-count-capacity.false)

@@ -1,27 +1,35 @@
 -- `card::verdict::judge` meets its contract: line 1, then the further lines.
-use mathlib.Core.Path.{◌≡◌, sym, ap, ◌∙◌}
+use mathlib.Core.Path.{◌≡◌, refl, sym, ◌∙◌}
 use mathlib.Core.Option.{some}
+use Rattle.std.specs.Prelude.{Some}
+use Rattle.std.proofs.lemmas.Result.{err_from_is_err_and}
+use Rattle.refusals.proofs.Table.{number_positive}
 use Rattle.text.specs.Lines.{numbers_of}
-use Rattle.card.specs.Card.{shape_on, due, due_of}
-use Rattle.card.proofs.verdict.FirstLine.{no_first, bad_first, first_refused, first_passed}
+use Rattle.card.specs.Card.{shape_on, due}
+use Rattle.card.proofs.Refusing.{none_as, refused_at, passed_at}
+use Rattle.card.proofs.verdict.FirstLine.{no_line, the_line, first_refused, first_passed}
+use Rattle.card.proofs.verdict.judge.Goals.{In_ok-l}
 use Rattle.card.proofs.verdict.judge.Goals as goal
 
-pub returns-in_default : goal.returns-in_default
-returns-in_default c = no_first _ _ (sym (ap due_of c.in_default.is) ∙ c.read_line.ensures) c.refused.ensures
+-- The first line, where it is of the form.
+first : (c : In_ok-l) → some (numbers_of (Some c.in_ok-l.l)) ≡ due c.args.card.now 1
+first c = the_line c.args.room _ _ _ (sym c.flatten.ensures ∙ c.in_ok-l.ensures.ok_part) c.read_line.ensures
 
-pub returns-in_default-l : goal.returns-in_default-l
-returns-in_default-l c =
-    let here : some (numbers_of c.in-Next.l) ≡ due c.args.card.now 1 = sym (ap due_of c.in-Next.is) ∙ c.read_line.ensures in
-    bad_first _ _ (ap (λ l. some (numbers_of l)) (sym c.in_default-l.is) ∙ here) c.refused-in_default-l.ensures
+pub returns-in_err-l : goal.returns-in_err-l
+returns-in_err-l c =
+    let p = err_from_is_err_and c.from_residual.result c.from_residual.ensures.1 in
+    rw (p.1, p.2, none_as _ _ _ c.in_err-l.ensures.value c.in_err-l.ensures.ok_part)
+    (no_line _ _ _ (sym c.flatten.ensures ∙ c.in_err-l.ensures.ok_part) c.read_line.ensures refl)
 
-pub returns-then-turned-ne0 : goal.returns-then-turned-ne0
+pub returns-in_err-at_line : goal.returns-in_err-at_line
 unfolding shape_on
-returns-then-turned-ne0 c =
-    let here : some (numbers_of c.in-Next.l) ≡ due c.args.card.now 1 = sym (ap due_of c.in-Next.is) ∙ c.read_line.ensures in
-    first_refused _ _ _ (ap (λ l. some (numbers_of l)) (sym c.in-Values.is) ∙ here) c.start_row-turned.ensures c.if-turned-ne0.true c.refused-then-turned-ne0.ensures
+returns-in_err-at_line c =
+    let p = err_from_is_err_and c.from_residual-in_err-at_line.result c.from_residual-in_err-at_line.ensures.1 in
+    let line = refused_at _ _ _ c.in_err-at_line.ensures in
+    rw (p.1, p.2)
+    (first_refused _ _ _ (first (goal.at.returns-in_err-at_line c).In_ok-l) (line.0 ∙ c.start_row.ensures) (number_positive _) (rw line.1))
 
 pub returns : goal.returns
 unfolding shape_on
 returns c =
-    let here : some (numbers_of c.in-Next.l) ≡ due c.args.card.now 1 = sym (ap due_of c.in-Next.is) ∙ c.read_line.ensures in
-    first_passed _ _ _ (ap (λ l. some (numbers_of l)) (sym c.in-Values.is) ∙ here) c.start_row-turned.ensures c.if-turned-ne0.false c.judge_further.ensures
+    first_passed _ _ _ (first (goal.at.returns c).In_ok-l) c.start_row.ensures (passed_at _ _ _ c.in_ok-at_line.ensures) c.judge_further.ensures
