@@ -6,5 +6,5 @@ mod answer;
 mod numbers;
 mod runs;
 
-pub use answer::FiguresAnswer;
+pub use answer::{Figures, FiguresAnswer};
 pub use runs::figures;

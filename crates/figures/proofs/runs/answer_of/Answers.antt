@@ -1,5 +1,5 @@
 -- `answer_of` meets its contract: each field from the totals.
-use mathlib.Core.Path.{◌≡◌, ap, ◌∙◌}
+use mathlib.Core.Path.{◌≡◌, sym, ap, ◌∙◌}
 use native.Mathlib.Omega.{arith}
 use Rattle.rounding.specs.Nearest.{nearest}
 use Rattle.hypervolume.specs.Cells.{holds, box}
@@ -9,6 +9,8 @@ use Rattle.calls.specs.Calls.{box_of}
 use Rattle.calls.proofs.Known.{known}
 use Rattle.figures.specs.Figures.{ascending}
 use Rattle.figures.proofs.Loading.{first_passes, runs_totals, sorted_long, share_asks}
+use Rattle.figures.proofs.Sorting.{sum_added}
+use Rattle.figures.proofs.Theorem.{sum_small}
 use Rattle.figures.proofs.Answering.{answer_is}
 use Rattle.figures.proofs.runs.answer_of.Goals.{After-box_of}
 use Rattle.figures.proofs.runs.answer_of.Goals as goal
@@ -43,8 +45,7 @@ bounds-sorted-n-2 c =
 
 pub sum-requires : goal.sum-requires
 sum-requires c =
-    let asked = c.requires in
-    runs_totals asked.0 asked.1
+    omega (arith, sum_small _ (runs_totals c.requires.0 c.requires.1), sum_added c.args.numbers.now)
 
 pub reference_of-requires : goal.reference_of-requires
 reference_of-requires c = first_passes c.requires.0
@@ -61,4 +62,4 @@ millionths-requires c =
 pub returns : goal.returns
 returns c =
     let asked = c.requires in
-    answer_is asked.0 asked.1 asked.2 c.sum.ensures (c.millionths.ensures ∙ ap (nearest _) (boxed (goal.at.returns c).After-box_of)) (c.one_if.ensures ∙ ap holds c.all_audited.ensures)
+    answer_is asked.0 asked.1 asked.2 (c.sum.ensures ∙ sym (sum_added _)) (c.millionths.ensures ∙ ap (nearest _) (boxed (goal.at.returns c).After-box_of)) (ap holds c.all_audited.ensures)

@@ -1,6 +1,6 @@
 -- `figures` meets its contract: the number is judged first.
 use Prim.Native.Nat.{ℕ, ◌≤◌}
-use mathlib.Core.Path.{◌≡◌, sym}
+use mathlib.Core.Path.{◌≡◌, refl, sym}
 use native.Mathlib.Omega.{arith}
 use lib.ListN.{length, take, replicate}
 use lib.Seq.{length-take-le}
@@ -8,7 +8,7 @@ use Rattle.figures.proofs.Answering.{number_refused, number_allowed, numbered}
 use Rattle.figures.proofs.runs.figures.Goals as goal
 
 pub returns-then-not-within : goal.returns-then-not-within
-returns-then-not-within c = number_refused _ _ c.within.ensures (c.if-not-within.true) c.refused.ensures
+returns-then-not-within c = number_refused _ _ c.within.ensures (c.if-not-within.true) refl
 
 pub slice_bounds-starts-end : goal.slice_bounds-starts-end
 slice_bounds-starts-end c =

@@ -1,13 +1,13 @@
 -- `figures_from` meets its contract: references that differ, or the answer.
 use Prim.Native.Nat.{ℕ}
-use mathlib.Core.Path.{sym, ◌∙◌}
+use mathlib.Core.Path.{refl, sym, ◌∙◌}
 use lib.ListN.{replicate}
 use lib.Seq.{length-take-le}
 use Rattle.figures.proofs.Answering.{references_differ, references_alike}
 use Rattle.figures.proofs.runs.figures_from.Goals as goal
 
 pub returns-then-not-of_one_reference : goal.returns-then-not-of_one_reference
-returns-then-not-of_one_reference c = references_differ _ _ c.of_one_reference.ensures (c.if-not-of_one_reference.true) c.refused.ensures
+returns-then-not-of_one_reference c = references_differ _ _ c.of_one_reference.ensures (c.if-not-of_one_reference.true) refl
 
 pub slice_bounds-answer_by-end : goal.slice_bounds-answer_by-end
 slice_bounds-answer_by-end c = sym (length-take-le {A = ℕ} _ (replicate 15 0) c.requires.2)

@@ -1,5 +1,4 @@
 -- `of_one_reference` meets its contract: the loop's invariant is Testing.
-use Prim.Native.Nat.{◌-◌}
 use lib.ListN.{length}
 use Rattle.words.specs.Layout.{read}
 use Rattle.fleet.specs.Fleet.{archives}
@@ -9,6 +8,3 @@ use Rattle.figures.proofs.runs.of_one_reference.Given as goal
 
 abbrev pub invariant-loop-i : goal.invariant-loop-i
 invariant-loop-i l = Testing (same_reference (read l.w)) (of_one_reference (archives (length l.starts) l.w)) l.w (length l.starts) l.i
-
-abbrev pub decreases-loop-i : goal.decreases-loop-i
-decreases-loop-i l = length l.starts - l.i
