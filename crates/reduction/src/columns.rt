@@ -19,19 +19,17 @@ fn least_in(numbers: &[u64], kept: &[u64], rule: u64) -> usize
     let mut place = 0;
     let mut number = numbers[0];
     let mut least = kept[0];
-    let mut i = 1;
-    while i < numbers.len() {
+    for i in 1..numbers.len() {
         let next = kept[i];
         if least < next {
-            i += 1;
-        } else if goes_first(rule, numbers[i], next, number, least) {
-            place = i;
-            number = numbers[i];
-            least = next;
-            i += 1;
-        } else {
-            i += 1;
+            continue;
         }
+        if !goes_first(rule, numbers[i], next, number, least) {
+            continue;
+        }
+        place = i;
+        number = numbers[i];
+        least = next;
     }
     place
 }
@@ -47,25 +45,14 @@ pub fn least(numbers: &[u64], kept: &[u64], rule: u64) -> usize
     least_in(numbers, kept, rule)
 }
 
-// Closes the gap at place k among the first n points.
-pub fn close_points(points: &mut [[u32; 3]], k: usize, n: usize)
-    requires { (k < n) × (n ≤ length points.old) }
-    ensures { take (n - 1) points.new ≡ closed k (take n points.old) }
-{
-    let mut i = k + 1;
-    while i < n {
-        let p = points[i];
-        points[i - 1] = p;
-        i += 1;
-    }
-}
-
-// Closes the gap at place k among the first n numbers.
-pub fn close_numbers(l: &mut [u64], k: usize, n: usize)
+// Closes the gap at place k among the first n of these.
+pub fn close<T: Copy>(l: &mut [T], k: usize, n: usize)
     requires { (k < n) × (n ≤ length l.old) }
     ensures { take (n - 1) l.new ≡ closed k (take n l.old) }
 {
-    slices::move_down(l, k, n - 1 - k, 1);
+    for i in k + 1..n {
+        l[i - 1] = l[i];
+    }
 }
 
 // Writes n records from their columns.
@@ -73,14 +60,12 @@ pub fn put_records(w: &mut [u64], n: usize, numbers: &[u64], points: &[[u32; 3]]
     requires { (8 + 5 * n ≤ length w.old) × (n ≤ length numbers.now) × (n ≤ length points.now) × (n ≤ length kept.now) }
     ensures { (rows : List Row) → RowsInColumns rows n numbers.now points.now kept.now → w.new ≡ put w.old 8 (records rows) }
 {
-    let mut i = 0;
-    while i < n {
+    for i in 0..n {
         let record = Record {
             number: numbers[i],
             point: point_at(points, i),
             kept: kept[i],
         };
         put_record(w, 8 + 5 * i, record);
-        i += 1;
     }
 }

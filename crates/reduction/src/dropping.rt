@@ -9,7 +9,7 @@ ghost use Rattle.words.specs.Archive.{Archive};
 ghost use Rattle.calls.specs.Calls.{dropped, note};
 ghost use Rattle.reduction.specs.Columns.{LeastNoted, GapClosed, Recounting, InColumns, Droppable, DropReady};
 
-use crate::columns::{close_numbers, close_points, least};
+use crate::columns::{close, least};
 use corners::update;
 use hypervolume::{Point, point_at};
 use records::raise_values;
@@ -39,9 +39,9 @@ fn close_gap(numbers: &mut [u64], points: &mut [[u32; 3]], kept: &mut [u64], n: 
     requires { (k < n) × (n ≤ length numbers.old) × (n ≤ length points.old) × (n ≤ length kept.old) }
     ensures { GapClosed n k numbers.old points.old kept.old numbers.new points.new kept.new }
 {
-    close_numbers(numbers, k, n);
-    close_points(points, k, n);
-    close_numbers(kept, k, n);
+    close(numbers, k, n);
+    close(points, k, n);
+    close(kept, k, n);
 }
 
 // Raises the contributions of the first m points by their joint counts with u, which is gone. Answers what it gained over

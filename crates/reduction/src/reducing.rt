@@ -2,43 +2,45 @@
 // each drop is one update of them, the words are written once, and the front is counted once, of those that are left.
 ghost use Rattle.std.specs.Prelude.{◌≡◌, ◌++◌, ◌-◌, ◌*◌, ◌≤◌, length};
 ghost use Rattle.slices.specs.Put.{put};
+ghost use Rattle.refusals.specs.Table.{outcome};
 ghost use Rattle.words.specs.Archive.{Archive};
 ghost use Rattle.words.specs.Layout.{word, layout, read, behind};
 ghost use Rattle.words.specs.Format.{archive_rows};
 ghost use Rattle.calls.specs.Calls.{reduce_rows, after_drops, notes};
 ghost use Rattle.calls.specs.Counted.{IsCounted};
 ghost use Rattle.calls.specs.Lent.{reduce, MeetsOutcome};
+ghost use Rattle.calls.specs.Outcomes.{answer_of};
 ghost use Rattle.reduction.specs.Columns.{InColumns, Droppable, DropReady, Storing, Stores};
 
 use crate::columns::put_records;
 use crate::dropping::drop_least;
 use ask::audited;
-use calls::Answer;
 use front::front;
 use hypervolume::Point;
 use records::{load, load_points, rule_allowed};
+use refusals::Refusal;
 use slices::clear;
 use words::{reference_of, refusal};
 
 // Rows 18 and 11 to 13.
-fn reduce_rows(w: &[u64], k: u64, rule: u64, log: usize) -> u64
+fn reduce_rows(w: &[u64], k: u64, rule: u64, log: usize) -> Result<(), Refusal>
     requires { archive_rows w.now 0 ≡ 0 }
-    ensures { result ≡ reduce_rows (read w.now) k rule log }
+    ensures { outcome result ≡ reduce_rows (read w.now) k rule log }
 {
     if !rule_allowed(rule) {
-        return 18;
+        return Err(Refusal::BadRule);
     }
     if w[0] < k {
-        return 11;
+        return Err(Refusal::AboveCount);
     }
     let drops = (w[0] - k) as usize;
     if log < 2 * drops {
-        return 12;
+        return Err(Refusal::LogShort);
     }
     if !audited(w) {
-        return 13;
+        return Err(Refusal::Miscount);
     }
-    0
+    Ok(())
 }
 
 // So many drops by a tie rule from the first n places of the columns, noted one behind the other. Answers the new total. What
@@ -62,8 +64,7 @@ fn drop_all(
     let mut line = [0u64; 512];
     let mut counts = [0u64; 512];
     let mut left = total;
-    let mut i = 0;
-    while i < drops {
+    for i in 0..drops {
         left = drop_least(
             numbers,
             points,
@@ -79,7 +80,6 @@ fn drop_all(
             log,
             2 * i,
         );
-        i += 1;
     }
     left
 }
@@ -136,18 +136,12 @@ fn reduce_by(w: &mut [u64], rule: u64, drops: usize, log: &mut [u64])
 }
 
 // Reduce (k, tie rule, log). Answers the count of drops.
-pub fn reduce(w: &mut [u64], k: u64, rule: u64, log: &mut [u64]) -> Answer
-    ensures { MeetsOutcome (reduce w.old k rule log.old) result w.new log.new }
+pub fn reduce(w: &mut [u64], k: u64, rule: u64, log: &mut [u64]) -> Result<u64, Refusal>
+    ensures { MeetsOutcome (reduce w.old k rule log.old) (answer_of result) w.new log.new }
 {
-    let refused = refusal(w);
-    if refused != 0 {
-        return Answer::refused(refused);
-    }
-    let turned = reduce_rows(w, k, rule, log.len());
-    if turned != 0 {
-        return Answer::refused(turned);
-    }
+    refusal(w)?;
+    reduce_rows(w, k, rule, log.len())?;
     let drops = w[0] - k;
     reduce_by(w, rule, drops as usize, log);
-    Answer::done(drops)
+    Ok(drops)
 }

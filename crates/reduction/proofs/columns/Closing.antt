@@ -3,10 +3,8 @@ use Prim.Native.Nat.{ℕ, zero, suc, ◌+◌, ◌-◌, ◌≤◌, ◌<◌}
 use mathlib.Core.Path.{◌≡◌, refl, sym, ap, ap₂, ◌∙◌}
 use mathlib.Core.List.{List, ◌∷◌, ◌++◌, append_assoc, append-nil, map, []}
 use native.Mathlib.Omega.{arith}
-use lib.ListN.{length, take, drop, set, get_or, length-set, length-drop}
+use lib.ListN.{length, take, drop, set, get_or, length-set}
 use lib.Seq.{length-take-le, take-take, take-suc, take-append-le, drop-append-le, take-suc-set, get_or-set_other, drop-length}
-use Rattle.slices.specs.Put.{put}
-use Rattle.slices.proofs.Put.{take_put_all, drop_take}
 use Rattle.reduction.specs.Columns.{closed}
 
 pub closed_map : {A B : Type 0} (f : A → B) (k : ℕ) (l : List A) → map f (closed k l) ≡ closed k (map f l)
@@ -31,17 +29,17 @@ closed_last k l h =
     ap₂ ◌++◌ (take-take k (suc k) l (omega arith)) (ap (λ n. drop n (take (suc k) l)) (sym long) ∙ drop-length (take (suc k) l))
     ∙ append-nil (take k l)
 
--- The loop over points: those before place i, but the one at k, stand in front.
-pub record ClosedSoFar {A : Type 0} (d : A) (old : List A) (k n i : ℕ) (now : List A) : Type 0 where
+-- The loop: those before place i, but the one at k, stand in front.
+pub record ClosedSoFar {A : Type 0} (old : List A) (k n i : ℕ) (now : List A) : Type 0 where
   pub above : k < i
   pub part : i ≤ n
   pub room : n ≤ length old
   pub long : length now ≡ length old
   pub front : take (i - 1) now ≡ closed k (take i old)
-  pub back : (j : ℕ) → i ≤ j → get_or now j d ≡ get_or old j d
+  pub back : (d : A) (j : ℕ) → i ≤ j → get_or now j d ≡ get_or old j d
 
-pub closed_none : {A : Type 0} (d : A) (old : List A) (k n : ℕ) → k < n → n ≤ length old → ClosedSoFar d old k n (k + 1) old
-closed_none d old k n l room =
+pub closed_none : {A : Type 0} (old : List A) (k n : ℕ) → k < n → n ≤ length old → ClosedSoFar old k n (k + 1) old
+closed_none old k n l room =
     let one : k + 1 ≡ suc k = omega arith in
     record {
       above = omega arith;
@@ -52,11 +50,12 @@ closed_none d old k n l room =
           ap (λ i. take i old) (let e : k + 1 - 1 ≡ k = omega arith in e)
           ∙ sym (closed_last k old (omega arith))
           ∙ ap (λ i. closed k (take i old)) (sym one);
-      back = λ j m. refl;
+      back = λ d j m. refl;
     }
 
-pub closed_next : {A : Type 0} {d : A} {old : List A} {k n i : ℕ} {now : List A} → ClosedSoFar d old k n i now → i < n → ClosedSoFar d old k n (i + 1) (set now (i - 1) (get_or now i d))
-closed_next {A} {d} {old} {k} {n} {i} {now} h l =
+-- The element at i, which stands at its old place.
+pub closed_next : {A : Type 0} {old : List A} {k n i : ℕ} {now : List A} → ClosedSoFar old k n i now → i < n → (x : A) → x ≡ get_or now i x → ClosedSoFar old k n (i + 1) (set now (i - 1) x)
+closed_next {A} {old} {k} {n} {i} {now} h l x is =
     let above : k < i = h.above in
     let room : n ≤ length old = h.room in
     let long : length now ≡ length old = h.long in
@@ -65,30 +64,17 @@ closed_next {A} {d} {old} {k} {n} {i} {now} h l =
       above = omega arith;
       part = omega arith;
       room = room;
-      long = length-set now (i - 1) (get_or now i d) ∙ long;
+      long = length-set now (i - 1) x ∙ long;
       front =
-          ap (λ m. take m (set now (i - 1) (get_or now i d))) (let e : i + 1 - 1 ≡ suc (i - 1) = omega arith in e)
-          ∙ take-suc-set now (i - 1) (get_or now i d) (omega arith)
-          ∙ ap₂ (λ x y. x ++ (y ∷ [])) h.front (h.back i (omega arith))
-          ∙ sym (closed_more k (take i old) (get_or old i d) (omega arith))
-          ∙ ap (closed k) (sym (take-suc old i d (omega arith)) ∙ ap (λ m. take m old) (let e : suc i ≡ i + 1 = omega arith in e));
-      back = λ j m. get_or-set_other now (i - 1) j (get_or now i d) d (λ e. omega arith) ∙ h.back j (omega arith);
+          ap (λ m. take m (set now (i - 1) x)) (let e : i + 1 - 1 ≡ suc (i - 1) = omega arith in e)
+          ∙ take-suc-set now (i - 1) x (omega arith)
+          ∙ ap₂ (λ y z. y ++ (z ∷ [])) h.front (is ∙ h.back x i (omega arith))
+          ∙ sym (closed_more k (take i old) (get_or old i x) (omega arith))
+          ∙ ap (closed k) (sym (take-suc old i x (omega arith)) ∙ ap (λ m. take m old) (let e : suc i ≡ i + 1 = omega arith in e));
+      back = λ d j m. get_or-set_other now (i - 1) j x d (λ e. omega arith) ∙ h.back d j (omega arith);
     }
 
-pub closed_end : {A : Type 0} {d : A} {old : List A} {k n i : ℕ} {now : List A} → ClosedSoFar d old k n i now → n ≤ i → take (n - 1) now ≡ closed k (take n old)
-closed_end {A} {d} {old} {k} {n} {i} {now} h l =
+pub closed_end : {A : Type 0} {old : List A} {k n i : ℕ} {now : List A} → ClosedSoFar old k n i now → n ≤ i → take (n - 1) now ≡ closed k (take n old)
+closed_end {A} {old} {k} {n} {i} {now} h l =
     let e : n ≡ i = (let part : i ≤ n = h.part in omega arith) in
     ap (λ m. take (m - 1) now) e ∙ h.front ∙ ap (λ m. closed k (take m old)) (sym e)
-
--- Numbers moved down by one.
-pub moved_down : (l after : List ℕ) (k n : ℕ) → k < n → n ≤ length l → after ≡ put l k (take (n - 1 - k) (drop (k + 1) l)) → take (n - 1) after ≡ closed k (take n l)
-unfolding closed
-moved_down l after k n h room e =
-    let new = take (n - 1 - k) (drop (k + 1) l) in
-    let size : length (take (n - 1 - k) (drop (k + 1) l)) ≡ n - 1 - k = length-take-le (n - 1 - k) (drop (k + 1) l) (omega (arith, length-drop (k + 1) l)) in
-    ap (take (n - 1)) e
-    ∙ ap (λ m. take m (put l k new)) (let e : n - 1 ≡ k + length (take (n - 1 - k) (drop (k + 1) l)) = omega arith in e)
-    ∙ take_put_all l k new (omega arith)
-    ∙ ap₂ ◌++◌ (sym (take-take k n l (omega arith)))
-    (ap₂ (λ a b. take a (drop b l)) (let e : n - 1 - k ≡ n - suc k = omega arith in e) (let e : k + 1 ≡ suc k = omega arith in e)
-    ∙ sym (drop_take (suc k) n l))

@@ -1,4 +1,4 @@
--- The least contributor of the first n places: what ranking asks, and what is noted.
+-- The least contributor of the first n places, as it is noted.
 use Prim.Native.Nat.{ℕ, ◌≤◌, ◌<◌}
 use mathlib.Core.Path.{◌≡◌, sym, ap₂, ◌∙◌}
 use mathlib.Core.List.{List, ◌∷◌, []}
@@ -9,10 +9,7 @@ use Rattle.slices.specs.Put.{put}
 use Rattle.reduction.specs.Columns.{LeastAt, LeastNoted}
 
 module _ (numbers kept : List ℕ) (n : ℕ) (p : n ≤ length numbers) where
-  pub rankable : 0 < n → n ≤ length kept → (length (take n kept) ≡ length (take n numbers)) × (0 < length (take n numbers))
-  rankable l q = (length-take-le n kept q ∙ sym (length-take-le n numbers p), omega (arith, length-take-le n numbers p))
-
-  pub place_below : (k : ℕ) → k < length (take n numbers) → k < n
+  place_below : (k : ℕ) → k < length (take n numbers) → k < n
   place_below k l = omega (arith, length-take-le n numbers p)
 
   pub least_noted : (rule k at : ℕ) (log after : List ℕ) → (k < length (take n numbers)) × LeastAt rule (take n numbers) (take n kept) k

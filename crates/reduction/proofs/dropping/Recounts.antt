@@ -12,8 +12,7 @@ use Rattle.slices.proofs.Placed.{counts_low, sparse_placed, moved_sparse}
 use Rattle.hypervolume.specs.Cells.{box}
 use Rattle.hypervolume.specs.Counts.{joint, joints}
 use Rattle.hypervolume.proofs.Counting.{joint_le_box}
-use Rattle.corners.specs.Updating.{Updating, Scratch}
-use Rattle.corners.proofs.Updates.{points_many, first_ready, some_fit}
+use Rattle.corners.proofs.Updates.{points_many, some_fit}
 use Rattle.reduction.specs.Columns.{Recounting}
 
 -- No joint count is above the box.
@@ -26,17 +25,10 @@ joints_each : (r : List ℕ) (ts : List (List ℕ)) (u : List ℕ) → Each (joi
 unfolding joints
 joints_each r ts u = joints_part r (u ∷ ts) ts u
 
--- What the update asks, what raising asks, and what it leaves.
+-- What raising asks, and what it leaves.
 module _ {points : List (List ℕ)} {kept : List ℕ} {m : ℕ} {u reference : List ℕ} (h : Recounting points kept m u reference) where
   kept_many : length (take m kept) ≡ length (take m points)
   kept_many = length-take-le m kept h.kept_room ∙ sym (points_many points m h.points_room)
-
-  pub update_ready : {corners : List (List ℕ)} {places line counts : List ℕ} → Scratch m corners places line counts → Updating (take m points) u reference corners places line counts
-  update_ready s = first_ready points m h.points_room h.sorted h.small h.reference_small s
-
-  -- A lent slice, as long as before, has room for those that moved.
-  pub room_for : {all places counts : List ℕ} {some : ℕ} (old now : List ℕ) → Sparse (length (take m points)) all places counts some → m ≤ length old → length now ≡ length old → some ≤ length now
-  room_for old now s r e = omega (arith, some_fit points m h.points_room s)
 
   pub long_enough : (old now : List ℕ) → m ≤ length old → length now ≡ length old → m ≤ length now
   long_enough old now r e = omega arith

@@ -10,8 +10,7 @@ use Rattle.slices.specs.Put.{put}
 use Rattle.slices.proofs.Put.{put_none, put_then}
 use Rattle.words.specs.Archive.{Archive}
 use Rattle.calls.specs.Calls.{removed, dropped, note, after_drops, notes}
-use Rattle.corners.specs.Updating.{Scratch}
-use Rattle.reduction.specs.Columns.{InColumns, Droppable, DropReady}
+use Rattle.reduction.specs.Columns.{InColumns, Droppable}
 use Rattle.reduction.proofs.columns.Dropping.{droppable_after}
 
 -- One drop more, at the end.
@@ -35,9 +34,6 @@ length_notes rule (suc i) a =
 
 pub some_left : (i drops n : ℕ) → i < drops → drops ≤ n → 0 < n - i
 some_left i drops n l m = omega arith
-
-pub fewer_left : (i drops : ℕ) → i < drops → drops - (i + 1) < drops - i
-fewer_left i drops l = omega arith
 
 -- Drops leave the shape.
 pub drops_shape : (rule i : ℕ) (a : Archive) → (after_drops rule i a).shape ≡ a.shape
@@ -87,24 +83,6 @@ module _
     {drops i left : ℕ} {numbers : List ℕ} {coordinates : List (List ℕ)} {kept log : List ℕ} {corners : List (List ℕ)} {places line counts : List ℕ}
     (h : DropsMade rule reference n total numbers₀ coordinates₀ kept₀ log₀ drops i left numbers coordinates kept log corners places line counts)
   where
-    pub drop_ready : DropReady reference n total numbers₀ coordinates₀ kept₀ → DropReady reference (n - i) left numbers coordinates kept
-    drop_ready r =
-        let one = h.made r.archive r.inside r.droppable in
-        record { archive = after_drops rule i r.archive; inside = one.holds; droppable = one.droppable }
-
-    pub drop_room : n ≤ 512 → Scratch (n - i) corners places line counts
-    drop_room few =
-        let s : Fixed corners places line counts = h.scratch in
-        record {
-          corners_room = let r : length corners ≡ 512 = s.corners_long in omega arith;
-          places_room = let r : length places ≡ 512 = s.places_long in omega arith;
-          line_room = let r : length line ≡ 512 = s.line_long in omega arith;
-          counts_room = let r : length counts ≡ 512 = s.counts_long in omega arith;
-        }
-
-    pub log_room : i < drops → 2 * drops ≤ length log₀ → 2 * i + 2 ≤ length log
-    log_room l r = let long : length log ≡ length log₀ = h.log_long in omega arith
-
     pub drops_next : (left' : ℕ) (numbers' : List ℕ) (coordinates' : List (List ℕ)) (kept' log' : List ℕ) (corners' : List (List ℕ)) (places' line' counts' : List ℕ) → i < drops → drops ≤ n → 2 * drops ≤ length log₀
         → ((a : Archive) → InColumns a reference (n - i) left numbers coordinates kept → Droppable a → InColumns (dropped rule a) reference (n - i - 1) left' numbers' coordinates' kept' × (log' ≡ put log (2 * i) (note rule a)))
         → length numbers' ≡ length numbers → length coordinates' ≡ length coordinates → length kept' ≡ length kept → length log' ≡ length log

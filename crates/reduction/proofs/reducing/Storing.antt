@@ -3,7 +3,7 @@ use Prim.Native.Nat.{ℕ, ◌+◌, ◌-◌, ◌*◌, ◌≤◌}
 use mathlib.Core.Path.{◌≡◌, refl, sym, ap, ap₂, ◌∙◌}
 use mathlib.Core.List.{List, ◌++◌}
 use native.Mathlib.Omega.{arith}
-use lib.ListN.{length, take, drop, set, replicate, length-set}
+use lib.ListN.{length, take, drop, set, replicate}
 use lib.Seq.{take_at}
 use Rattle.hypervolume.specs.Front.{front}
 use Rattle.front.specs.Keys.{InOrder}
@@ -113,9 +113,6 @@ module _ {w : List ℕ} {n m : ℕ} {numbers kept : List ℕ} {coordinates : Lis
 
   pub zeros_fit : 5 * (n - m) ≤ 2560
   zeros_fit = let counted : n ≡ word w 0 = h.counted in omega (arith, (known w h.passes).few)
-
-pub stored_long : (w w₁ w₂ : List ℕ) (m total size : ℕ) → length w₁ ≡ length w → length w₂ ≡ length w₁ → length (set (set (set w₂ 0 m) 5 total) 6 size) ≡ length w
-stored_long w w₁ w₂ m total size e f = length-set (set (set w₂ 0 m) 5 total) 6 size ∙ length-set (set w₂ 0 m) 5 total ∙ length-set w₂ 0 m ∙ f ∙ e
 
 pub stored : {w : List ℕ} {n m : ℕ} {numbers kept : List ℕ} {coordinates : List (List ℕ)} (w₁ w₂ w₃ : List ℕ) (total size : ℕ) → Storing w n m numbers coordinates kept
     → ((rows : List Row) → RowsInColumns rows m numbers coordinates kept → w₁ ≡ put w 8 (records rows))

@@ -8,8 +8,5 @@ loop-i-init c = records_none _ _ _ _ _
 pub loop-i-preserved : goal.loop-i-preserved
 loop-i-preserved c = records_more _ _ c.loop-i.invariant c.loop-i-test.true c.requires.0 c.point_at.ensures c.put_record.ensures c.put_record.auto.w
 
-pub shape_of-w : goal.shape_of-w
-shape_of-w c = c.loop-i.invariant.long
-
 pub returns : goal.returns
 returns c = records_end c.loop-i.invariant c.loop-i-test.false
