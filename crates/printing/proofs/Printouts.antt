@@ -6,6 +6,7 @@ use native.Mathlib.Nat.{mul-le-mul_left}
 use native.Mathlib.Omega.{arith}
 use lib.ListN.{length, take, drop, set, replicate, length-append, length-take, length-replicate}
 use Rattle.std.proofs.Math.Seq.{take-append_seam}
+use Rattle.std.specs.Prelude.{Result, Ok, Err, IsOk}
 use Rattle.slices.specs.Put.{put}
 use Rattle.slices.proofs.Put.{put_front}
 use Rattle.text.specs.Lines.{newline}
@@ -14,7 +15,10 @@ use Rattle.text.proofs.Justified.{length_justified}
 use Rattle.words.specs.Archive.{Archive}
 use Rattle.words.specs.Layout.{word, extent, read}
 use Rattle.words.proofs.Reading.{read_layout}
+use Rattle.refusals.specs.declared.Refusal.{Refusal}
+use Rattle.refusals.proofs.Table.{number_positive}
 use Rattle.calls.specs.declared.Answer.{Answer}
+use Rattle.calls.specs.Outcomes.{answer_of as answered}
 use Rattle.calls.proofs.Known.{known}
 use Rattle.card.specs.declared.Loaded.{Loaded}
 use Rattle.card.specs.Card.{lines, Loading, load, ReadInto}
@@ -136,17 +140,28 @@ print_text text {input} {read-bytes} {out} k loads none whole long =
     let accepted = loads.accepted none in
     prints_read text input read-bytes out _ k (accepted.0.prints text) (rw accepted.1 at whole) long
 
--- The same in one of the two forms.
-pub print_form : (first wide : ℕ) {input : List ℕ} {read-bytes : ℕ} {out : List ℕ} {r : ℕ} {words out₁ after : List ℕ} {a : Answer}
-    → PrintRoom (33 + wide) input read-bytes out → LoadsRead input read-bytes out r words out₁ → r ≡ 0 → Told first wide words out₁ a after
-    → PrintsRead (text_of first wide) input read-bytes out a.value after
-print_form first wide {out = out} {words = words} {out₁ = out₁} {a = a} room loads none told =
-    let accepted = loads.accepted none in
-    let few : word words 0 ≤ 512 = (known words accepted.0.passes).few in
-    let space : (33 + wide) * 513 ≤ length out₁ = rw accepted.1 room.text in
-    let most : (33 + wide) * (word words 0 + 1) ≤ (33 + wide) * 513 = mul-le-mul_left (33 + wide) (omega arith) in
-    let done = text_done first wide words out₁ accepted.0.passes (omega arith) in
-    print_text (text_of first wide) a.value loads none (told.1 ∙ sym done.1) (ap (λ x. x.value) (told.0 ∙ sym done.0))
+-- The same in one of the two forms, which is not refused.
+module _ (first wide : ℕ) {input : List ℕ} {read-bytes : ℕ} {out : List ℕ} {r : ℕ} {words out₁ after : List ℕ} {a : Answer}
+    (room : PrintRoom (33 + wide) input read-bytes out) (loads : LoadsRead input read-bytes out r words out₁) (none : r ≡ 0)
+    (told : Told first wide words out₁ a after) where
+  form_done : Told first wide words out₁ (record { refusal = 0; value = length (text_of first wide (read words)) }) (put out₁ 0 (text_of first wide (read words)))
+  form_done =
+      let accepted = loads.accepted none in
+      let few : word words 0 ≤ 512 = (known words accepted.0.passes).few in
+      let space : (33 + wide) * 513 ≤ length out₁ = rw accepted.1 room.text in
+      let most : (33 + wide) * (word words 0 + 1) ≤ (33 + wide) * 513 = mul-le-mul_left (33 + wide) (omega arith) in
+      text_done first wide words out₁ accepted.0.passes (omega arith)
+
+  pub form_answered : a ≡ record { refusal = 0; value = length (text_of first wide (read words)) }
+  form_answered = told.0 ∙ sym form_done.0
+
+  pub print_form : PrintsRead (text_of first wide) input read-bytes out a.value after
+  print_form = print_text (text_of first wide) a.value loads none (told.1 ∙ sym form_done.1) (ap (λ x. x.value) form_answered)
+
+-- An answer whose refusal is 0 is of a call that was done.
+pub done_of : (r : Result ℕ Refusal) {v : ℕ} → answered r ≡ record { refusal = 0; value = v } → IsOk r
+done_of (Ok x) e = refl
+done_of (Err row) e = absurd (number_positive row (ap (λ x. x.refusal) e))
 
 pub printing : Printing
 printing = record { enough_read = enough_read }

@@ -1,20 +1,23 @@
 // Texts of an archive, written line by line, and printed of a card: what the report and the card written back share. They differ
-// in the header's word that line 1 begins with (`first`), and in the bytes of a last column (`wide`, 0 for none).
+// in the header's word that line 1 begins with (`first`), and in the bytes of a last column (`wide`, 0 for none). They stay two
+// numbers: the contracts of `write_text` and `print` name them.
 #![tactic(auto)]
 
-ghost use Rattle.std.specs.Prelude.{◌≡◌, ◌+◌, ◌≤◌, length};
+ghost use Rattle.std.specs.Prelude.{◌≡◌, ◌+◌, ◌≤◌, ◌<◌, length, unwrap_or, IfSome};
 ghost use Rattle.slices.specs.Put.{put};
+ghost use Rattle.refusals.specs.Table.{number_of};
 ghost use Rattle.text.specs.Justified.{justified};
 ghost use Rattle.words.specs.Layout.{read};
 ghost use Rattle.words.specs.Places.{as_record};
 ghost use Rattle.calls.specs.Lent.{answer};
+ghost use Rattle.calls.specs.Outcomes.{answer_of};
 ghost use Rattle.printing.specs.Texts.{lines_of, text_rows, output};
 ghost use Rattle.printing.specs.Printed.{refusal_line, PrintRoom, PrintsRead};
 ghost use Rattle.printing.specs.Cards.{LoadRoom, LoadsRead};
 ghost use Rattle.printing.specs.Forms.{text_row, text_of, LastColumn, TextForm, TextRoom};
 
-use calls::Answer;
-use card::{long_enough, read_card};
+use card::{CardError, long_enough, read_card};
+use refusals::Refusal;
 use words::{Record, record_at, reference_of};
 
 // Writes the last column, if there is one. Its width is written out: where the compiler knows how long the loop is, a report takes
@@ -52,25 +55,20 @@ fn put_records(w: &[u64], out: &mut [u8], wide: usize)
     ensures { out.new ≡ put out.old (33 + wide) (lines_of (text_row wide) (read w.now).rows) }
 {
     let n = w[0] as usize;
-    let mut i: usize = 0;
-    while i < n {
+    for i in 0..n {
         put_line(out, (33 + wide) * (i + 1), record_at(w, i), wide);
-        i += 1;
     }
 }
 
 // The text of the archive: rows 1 to 3, then 16; else its length, with the text at the front of the output.
-pub fn write_text(w: &[u64], out: &mut [u8], first: usize, wide: usize) -> Answer
+pub fn write_text(w: &[u64], out: &mut [u8], first: usize, wide: usize) -> Result<u64, Refusal>
     requires { TextForm first wide }
-    ensures { (result ≡ answer (text_rows (33 + wide) w.now out.old) (length (text_of first wide (read w.now)))) × (out.new ≡ output (text_rows (33 + wide) w.now out.old) (text_of first wide (read w.now)) out.old) }
+    ensures { (answer_of result ≡ answer (text_rows (33 + wide) w.now out.old) (length (text_of first wide (read w.now)))) × (out.new ≡ output (text_rows (33 + wide) w.now out.old) (text_of first wide (read w.now)) out.old) }
 {
-    let refusal = words::refusal(w);
-    if refusal != 0 {
-        return Answer::refused(refusal);
-    }
+    words::refusal(w)?;
     let bytes = (33 + wide as u64) * (w[0] + 1);
     if (out.len() as u64) < bytes {
-        return Answer::refused(16);
+        return Err(Refusal::OutputShort);
     }
     let head = Record {
         number: w[first],
@@ -79,33 +77,35 @@ pub fn write_text(w: &[u64], out: &mut [u8], first: usize, wide: usize) -> Answe
     };
     put_line(out, 0, head, wide);
     put_records(w, out, wide);
-    Answer::done(bytes)
+    Ok(bytes)
 }
 
 // Writes the line of a refused card.
-fn put_refusal(out: &mut [u8], refusal: u64, line: u64)
+fn put_refusal(out: &mut [u8], error: CardError)
     requires { 17 ≤ length out.old }
-    ensures { out.new ≡ put out.old 0 (refusal_line refusal line) }
+    ensures { out.new ≡ put out.old 0 (refusal_line (number_of error.refusal) error.line) }
 {
-    text::put_number(out, 0, 8, refusal);
-    text::put_number(out, 8, 8, line);
+    text::put_number(out, 0, 8, error.refusal.number());
+    text::put_number(out, 8, 8, error.line);
     out[16] = b'\n';
 }
 
 // Loads a card of any length into words that are enough for every capacity, or writes the line of a refused card. Answers how many
-// bytes were written, so 0 where the card is accepted. `read` bytes of it were read to the front of the input: all of it, or as much
-// as fills the input. Lines behind the 514th decide nothing, so room for 514 lines of 33 bytes is enough. In a shorter input a line
-// would be cut that decides.
-pub fn load_card(input: &[u8], read: usize, words: &mut [u64], out: &mut [u8]) -> usize
+// bytes were written, if the card is refused. `read` bytes of it were read to the front of the input: all of it, or as much as fills
+// the input. Lines behind the 514th decide nothing, so room for 514 lines of 33 bytes is enough. In a shorter input a line would be
+// cut that decides.
+pub fn load_card(input: &[u8], read: usize, words: &mut [u64], out: &mut [u8]) -> Option<usize>
     requires { LoadRoom input.now read words.old out.old }
-    ensures { LoadsRead input.now read out.old result words.new out.new }
+    ensures loads { LoadsRead input.now read out.old (unwrap_or result 0) words.new out.new }
+    ensures written { IfSome result (λ bytes. 0 < bytes) }
 {
-    let loaded = read_card(words, &input[..read]);
-    if loaded.refusal != 0 {
-        put_refusal(out, loaded.refusal, loaded.line);
-        return 17;
+    match read_card(words, &input[..read]) {
+        Ok(_) => None,
+        Err(error) => {
+            put_refusal(out, error);
+            Some(17)
+        }
     }
-    0
 }
 
 // Writes the text of a card of any length, of which `read` bytes were read to the front of the input, or the line of a refused card,
@@ -115,9 +115,8 @@ pub fn print(input: &[u8], read: usize, out: &mut [u8], first: usize, wide: usiz
     ensures { PrintsRead (text_of first wide) input.now read out.old result out.new }
 {
     let mut words = long_enough();
-    let refused = load_card(input, read, &mut words, out);
-    if refused != 0 {
-        return refused;
+    if let Some(written) = load_card(input, read, &mut words, out) {
+        return written;
     }
-    write_text(&words, out, first, wide).value as usize
+    write_text(&words, out, first, wide).unwrap() as usize
 }

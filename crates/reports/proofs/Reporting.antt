@@ -29,8 +29,8 @@ length_report a = length_text 0 20 a
 
 -- The report of words that pass, where there is room for it.
 pub report_done : (w out : List ℕ) → archive_rows w 0 ≡ 0 → 53 * (word w 0 + 1) ≤ length out
-    → ((report w out).value ≡ length (report_text (read w))) × (reported w out ≡ put out 0 (report_text (read w)))
+    → (report w out ≡ record { refusal = 0; value = length (report_text (read w)) }) × (reported w out ≡ put out 0 (report_text (read w)))
 unfolding report_text head_line record_line report_line text_of text_row text_line header
 report_done w out passes room =
     let done = as_report w out (text_done 0 20 w out passes room) in
-    (ap (λ a. a.value) (sym done.0), sym done.1)
+    (sym done.0, sym done.1)

@@ -2,15 +2,16 @@
 #![tactic(auto)]
 
 ghost use Rattle.std.specs.Prelude.{◌≡◌};
+ghost use Rattle.calls.specs.Outcomes.{answer_of};
 ghost use Rattle.printing.specs.Printed.{PrintRoom, PrintsRead};
 ghost use Rattle.reports.specs.Report.{report_text, report, reported};
 
-use calls::Answer;
+use refusals::Refusal;
 
 // The report of the archive: rows 1 to 3, then 16; else its length, with the report at the front of the output. Its first line
 // begins with the count, word 0, and its last column has twenty bytes.
-pub fn report(w: &[u64], out: &mut [u8]) -> Answer
-    ensures { (result ≡ report w.now out.old) × (out.new ≡ reported w.now out.old) }
+pub fn report(w: &[u64], out: &mut [u8]) -> Result<u64, Refusal>
+    ensures { (answer_of result ≡ report w.now out.old) × (out.new ≡ reported w.now out.old) }
 {
     printing::write_text(w, out, 0, 20)
 }

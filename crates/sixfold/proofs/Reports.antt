@@ -51,17 +51,25 @@ module _ (w : List ℕ) (order : ℕ) (passes : archive_rows w 0 ≡ 0) (one : o
     unfolding report_in
     report_of = ap report_text (ap read e ∙ read_layout (rearranged_archive order (read w)) _)
 
-    pub report_put : (out : List ℕ) (at : ℕ) {part : List ℕ} {r : Answer} → at + 53 * 513 ≤ length out
-        → (r ≡ report v (take (length out - at) (drop at out))) × (part ≡ reported v (take (length out - at) (drop at out)))
-        → (take at out ++ (part ++ drop (length out - at) (drop at out)) ≡ put out at (report_in order (read w)))
-        × (r.value ≡ length (report_in order (read w)))
-    report_put out at {part} room done =
-        let rest : List ℕ = take (length out - at) (drop at out) in
-        let long : length rest ≡ length out - at = length-take-le (length out - at) (drop at out) (omega (arith, length-drop at out)) in
-        let few : word v 0 ≤ 512 = (known v passes_again).few in
-        let written = report_done v rest passes_again (omega arith) in
-        let text : part ≡ put rest 0 (report_in order (read w)) = done.1 ∙ written.1 ∙ ap (put rest 0) report_of in
-        (rw text (put_rest out at (report_in order (read w))), ap (λ a. a.value) done.0 ∙ written.0 ∙ ap length report_of)
+    module _ (out : List ℕ) (at : ℕ) {part : List ℕ} {r : Answer} (room : at + 53 * 513 ≤ length out)
+        (done : (r ≡ report v (take (length out - at) (drop at out))) × (part ≡ reported v (take (length out - at) (drop at out)))) where
+      written : (report v (take (length out - at) (drop at out)) ≡ record { refusal = 0; value = length (report_text (read v)) })
+          × (reported v (take (length out - at) (drop at out)) ≡ put (take (length out - at) (drop at out)) 0 (report_text (read v)))
+      written =
+          let long : length (take (length out - at) (drop at out)) ≡ length out - at =
+          length-take-le (length out - at) (drop at out) (omega (arith, length-drop at out)) in
+          let few : word v 0 ≤ 512 = (known v passes_again).few in
+          report_done v (take (length out - at) (drop at out)) passes_again (omega arith)
+
+      pub report_answered : r ≡ record { refusal = 0; value = length (report_in order (read w)) }
+      report_answered = done.0 ∙ written.0 ∙ ap (λ text. record { refusal = 0; value = length text }) report_of
+
+      pub report_put : (take at out ++ (part ++ drop (length out - at) (drop at out)) ≡ put out at (report_in order (read w)))
+          × (r.value ≡ length (report_in order (read w)))
+      report_put =
+          let rest : List ℕ = take (length out - at) (drop at out) in
+          let text : part ≡ put rest 0 (report_in order (read w)) = done.1 ∙ written.1 ∙ ap (put rest 0) report_of in
+          (rw text (put_rest out at (report_in order (read w))), ap (λ a. a.value) report_answered)
 
 -- The loop over the orders: the reports in the orders before this one stand at the front of the output.
 pub record Reporting (w second old : List ℕ) (at order : ℕ) (second' out : List ℕ) : Type 0 where

@@ -20,7 +20,7 @@ fn put_report(w: &[u64], order: usize, second: &mut [u64], out: &mut [u8], at: u
     ensures { (out.new ≡ put out.old at (report_in order (read w.now))) × (result ≡ length (report_in order (read w.now))) }
 {
     write(w, order, second);
-    report(second, &mut out[at..]).value as usize
+    report(second, &mut out[at..]).unwrap() as usize
 }
 
 // Writes the six reports one behind the other, and answers their length.
@@ -29,10 +29,8 @@ fn put_six(w: &[u64], second: &mut [u64], out: &mut [u8]) -> usize
     ensures { (out.new ≡ put out.old 0 (six_text (read w.now))) × (result ≡ length (six_text (read w.now))) }
 {
     let mut at = 0;
-    let mut order = 0;
-    while order < 6 {
+    for order in 0..6 {
         at += put_report(w, order, second, out, at);
-        order += 1;
     }
     at
 }
@@ -44,9 +42,8 @@ pub fn print(input: &[u8], read: usize, out: &mut [u8]) -> usize
     ensures { PrintsRead six_text input.now read out.old result out.new }
 {
     let mut words = long_enough();
-    let refused = load_card(input, read, &mut words, out);
-    if refused != 0 {
-        return refused;
+    if let Some(written) = load_card(input, read, &mut words, out) {
+        return written;
     }
     let mut second = long_enough();
     put_six(&words, &mut second, out)

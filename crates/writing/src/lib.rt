@@ -2,15 +2,16 @@
 #![tactic(auto)]
 
 ghost use Rattle.std.specs.Prelude.{◌≡◌};
+ghost use Rattle.calls.specs.Outcomes.{answer_of};
 ghost use Rattle.printing.specs.Printed.{PrintRoom, PrintsRead};
 ghost use Rattle.writing.specs.Written.{card_text, write, written};
 
-use calls::Answer;
+use refusals::Refusal;
 
 // The card of the archive: rows 1 to 3, then 16; else its length, with the card at the front of the output. Its first line begins
 // with the capacity, word 1, and it has no last column.
-pub fn write(w: &[u64], out: &mut [u8]) -> Answer
-    ensures { (result ≡ write w.now out.old) × (out.new ≡ written w.now out.old) }
+pub fn write(w: &[u64], out: &mut [u8]) -> Result<u64, Refusal>
+    ensures { (answer_of result ≡ write w.now out.old) × (out.new ≡ written w.now out.old) }
 {
     printing::write_text(w, out, 1, 0)
 }

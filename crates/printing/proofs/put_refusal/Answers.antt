@@ -8,4 +8,4 @@ pub shape_of-out : goal.shape_of-out
 shape_of-out c = simp length-set (omega arith)
 
 pub returns : goal.returns
-returns c = put_refusal c.args.out.now _ _ c.requires (omega arith) c.put_number.ensures c.put_number-2.ensures
+returns c = put_refusal c.args.out.now _ _ c.requires (omega arith) (rw (← c.number.ensures) c.put_number.ensures) c.put_number-2.ensures
