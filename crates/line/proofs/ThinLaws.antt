@@ -257,6 +257,17 @@ module _ {front old : List ℕ} {next : ℕ} {done : List ℕ} {w : ℕ} {rest' 
           below = h.below;
         }
 
+pub walk_end : {front old : List ℕ} {next : ℕ} {done : List ℕ} → Walk front old next done [] → ThinnedLine front old next (done ++ [])
+unfolding Flagged
+walk_end {front} {old} {next} {done} h =
+    record {
+      short = omega (arith, h.short, length-append done []);
+      rising = h.rising;
+      flags = flagged_join (front ++ (next ∷ [])) done [] h.flags_done tt;
+      alike = h.alike;
+      below = h.below;
+    }
+
 -- The walk over the words: the entries that stay end at `to`, those from `from` on are as they were.
 pub record Walking (line : List ℕ) (m at next : ℕ) (now : List ℕ) (to from : ℕ) : Type 0 where
   pub asked : ThinningLine line m at next
@@ -400,3 +411,17 @@ module _ {line : List ℕ} {m at next : ℕ} {now : List ℕ} {to from : ℕ} (h
         before = h.before;
         thinned = rw (unread_part, rest_is, ← walking_entry) (walk_stop come_to (sym i ∙ n) (omega arith));
       }
+
+pub walking_end : {line : List ℕ} {m at next : ℕ} {now : List ℕ} {to from : ℕ} → Walking line m at next now to from → m ≤ from → Walked line m at next now to from
+walking_end {line} {m} {at} {next} {now} {to} {from} h l =
+    record {
+      front = h.front;
+      gap = h.gap;
+      within = h.within;
+      long = h.long;
+      before = h.before;
+      thinned = rw (none now) (walk_end (rw (none line) at h.walk));
+    }
+  where
+    none : (r : List ℕ) → drop from (take m r) ≡ []
+    none r = drop_of_length-le (take m r) {i = from} (omega (arith, length-take m r))

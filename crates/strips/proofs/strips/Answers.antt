@@ -1,7 +1,8 @@
 -- `strips` meets its contract. The invariant: the columns passed are settled, and the state is that of the entries
 -- passed.
-use Prim.Native.Nat.{min}
-use mathlib.Core.Path.{◌≡◌, ap, ◌∙◌}
+use Prim.Native.Nat.{max, min}
+use mathlib.Core.Path.{◌≡◌}
+use native.Mathlib.Omega.{arith}
 use lib.ListN.{get_or}
 use Rattle.line.specs.Line.{x_of}
 use Rattle.strips.proofs.StripsLaws.{swept_none, swept_more, swept_fits, swept_stop, turn_settling, turn_settled, end_settling, end_settled, end_crossed}
@@ -10,10 +11,10 @@ use Rattle.strips.proofs.strips.Goals as goal
 
 -- where the strip ends
 next_is : (c : After-min-next) → c.min-next.result ≡ min (x_of (get_or c.args.line.now c.loop-k.k 0)) c.args.rx
-next_is c = c.min-next.ensures ∙ ap (λ x. min x c.args.rx) c.x_of.ensures
+next_is c = omega (arith, c.min-next.ensures, c.x_of.ensures)
 
 pub loop-k-init : goal.loop-k-init
-loop-k-init c = swept_none c.requires c.min-at.ensures
+loop-k-init c = swept_none c.requires (let at_is : c.min-at.result ≡ min c.args.px c.args.rx = omega (arith, c.min-at.ensures) in at_is)
 
 pub returns-then-column-py : goal.returns-then-column-py
 returns-then-column-py c = swept_stop c.loop-k.invariant c.if-column-py.true
@@ -31,7 +32,7 @@ overflow_add-area c =
 pub loop-k-preserved : goal.loop-k-preserved
 loop-k-preserved c =
     swept_more c.requires c.loop-k.invariant (next_is (goal.at.loop-k-preserved c).After-min-next) c.settle-area.ensures
-    c.max-at.ensures
+    (let at_is : c.max-at.result ≡ max c.loop-k.at c.min-next.result = omega (arith, c.max-at.ensures) in at_is)
     c.y_of.ensures
     c.index_of.ensures
     c.with-column.ensures
