@@ -60,8 +60,7 @@ fn settle(column: Column, from: u64, to: u64, py: u64, height: u64, out: &mut [u
 
 // The area that p alone dominates in a layer; from each contribution in `out` goes what p and that point alone dominate.
 // The pass begins at p, behind the entries before `start`, which make the column `first`. It ends early where two points
-// passed dominate all that is left of p. (With the operands of `min` and `max`
-// the other way round the sweep takes 4 % longer.)
+// passed dominate all that is left of p. (With the operands of `min` and `max` the other way round the sweep takes 4 % longer.)
 pub fn strips(
     line: &[u64],
     start: usize,
