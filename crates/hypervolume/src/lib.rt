@@ -2,30 +2,14 @@
 // slice of their coordinates, three to a point.
 #![tactic(auto)]
 
-ghost use Rattle.std.specs.Prelude.{◌≡◌, ◌∷◌, [], ℕ, ◌-◌, ◌≤◌, ◌<◌, ◌*◌, max, min, leb, length, get_or, set};
+ghost use Rattle.std.specs.Prelude.{◌≡◌, ◌∷◌, [], ℕ, ◌-◌, ◌≤◌, ◌<◌, ◌*◌, leb, length, get_or, set};
 ghost use Rattle.hypervolume.specs.Cells.{holds, dominates, join, edges};
 ghost use Rattle.hypervolume.specs.Axes.{axes_within};
-
-pub mod number;
 
 // A point: a coordinate for each axis, x, y, z.
 #[derive(Clone, Copy)]
 pub struct Point {
     pub at: [u32; 3],
-}
-
-// The larger of two coordinates.
-pub fn larger(x: u32, y: u32) -> u32
-    ensures { result ≡ max x y }
-{
-    if x < y { y } else { x }
-}
-
-// The smaller of two coordinates.
-pub fn smaller(x: u32, y: u32) -> u32
-    ensures { result ≡ min x y }
-{
-    if x < y { x } else { y }
 }
 
 // 1 where a coordinate is at most another, else 0. By arithmetic: a choice would become a branch that nothing foretells.
