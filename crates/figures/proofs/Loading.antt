@@ -1,12 +1,13 @@
 -- The runs: their totals read one by one, their references compared with the first, and the share's box.
 use Prim.Native.Nat.{ℕ, zero, suc, ◌+◌, ◌-◌, ◌≤◌, ◌<◌}
 use mathlib.Core.Path.{◌≡◌, refl, sym, ap, ◌∙◌}
-use mathlib.Core.Bool.{Bool}
-use mathlib.Core.List.{List}
+use mathlib.Core.Bool.{Bool, true, false, ◌&&◌}
+use mathlib.Core.List.{List, ◌∷◌, []}
 use native.Mathlib.Omega.{arith}
 use lib.Dec.{eqb}
-use lib.ListN.{length, get_or, set, length-set}
+use lib.ListN.{length, get_or, take, drop, set, length-set}
 use lib.Seq.{get_or-set_same, get_or-set_other, get_or-drop, ext_get_or}
+use Rattle.std.specs.Cmp.Lexicographic.{pointwise}
 use Rattle.slices.specs.Choices.{both}
 use Rattle.slices.proofs.Put.{rest_is}
 use Rattle.order.proofs.ByDigit.{length_by_digit}
@@ -57,10 +58,24 @@ module _ {w starts : List ℕ} {i : ℕ} {out : List ℕ} (h : Loading w starts 
       (λ k b. h.there k (omega (arith, h.long)) ∙ sym (totals_at (length starts) k w (omega (arith, h.long))))
 
 -- A reference is words 2, 3 and 4.
-pub same_by_words : (a b : List ℕ) {yz all : Bool} → yz ≡ both (eqb (word a 3) (word b 3)) (eqb (word a 4) (word b 4))
-    → all ≡ both (eqb (word a 2) (word b 2)) yz → all ≡ same_reference (read a) (read b)
-unfolding same_reference read read_shape
-same_by_words a b e f = f ∙ ap (both (eqb (word a 2) (word b 2))) e
+words_of : (a : List ℕ) → 8 ≤ length a → take 3 (drop 2 a) ≡ word a 2 ∷ word a 3 ∷ word a 4 ∷ []
+words_of [] h = absurd (let no : ⊥ = omega arith in no)
+words_of (p ∷ []) h = absurd (let no : ⊥ = omega arith in no)
+words_of (p ∷ q ∷ []) h = absurd (let no : ⊥ = omega arith in no)
+words_of (p ∷ q ∷ x ∷ []) h = absurd (let no : ⊥ = omega arith in no)
+words_of (p ∷ q ∷ x ∷ y ∷ []) h = absurd (let no : ⊥ = omega arith in no)
+words_of (p ∷ q ∷ x ∷ y ∷ z ∷ a) h = refl
+
+pub same_by_words : (a b : List ℕ) → 8 ≤ length a → 8 ≤ length b → {same : Bool} → same ≡ pointwise eqb (take 3 (drop 2 a)) (take 3 (drop 2 b)) → same ≡ same_reference (read a) (read b)
+unfolding same_reference read read_shape both
+same_by_words a b h k e =
+    e ∙ rw (words_of a h, words_of b k) (go (eqb (word a 2) (word b 2)) (eqb (word a 3) (word b 3)) (eqb (word a 4) (word b 4)))
+  where
+    go : (s t u : Bool) → (s && (t && (u && true))) ≡ both s (both t u)
+    go true true true = refl
+    go true true false = refl
+    go true false u = refl
+    go false t u = refl
 
 -- References are compared from the second archive on.
 pub comparing_none : (n : ℕ) (w : List ℕ) → Testing (same_reference (read w)) (of_one_reference (archives n w)) w n 1

@@ -1,5 +1,5 @@
 -- How the answer for C says what the call came to: the refusal's number and zeros, or 0 and the figures.
-use Rattle.std.specs.Prelude.{Bool, true, false, Result, Ok, Err}
+use Rattle.std.specs.Prelude.{Result, Ok, Err}
 use Rattle.refusals.specs.declared.Refusal.{Refusal}
 use Rattle.refusals.specs.Table.{number_of}
 use Rattle.hypervolume.specs.Cells.{holds}

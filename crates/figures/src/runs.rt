@@ -12,7 +12,6 @@ use crate::numbers::{sort, sum};
 use fleet::{all_audited, check};
 use refusals::Refusal;
 use rounding::millionths;
-use slices::both;
 use words::{box_of, reference_of, within};
 
 // Reads the kept totals.
@@ -30,7 +29,7 @@ fn same_reference(a: &[u64], b: &[u64]) -> bool
     requires { (8 ≤ length a.now) × (8 ≤ length b.now) }
     ensures { result ≡ same_reference (read a.now) (read b.now) }
 {
-    both(a[2] == b[2], both(a[3] == b[3], a[4] == b[4]))
+    a[2..5] == b[2..5]
 }
 
 // Whether every reference is that of the first.

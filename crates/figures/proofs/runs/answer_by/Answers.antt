@@ -10,6 +10,3 @@ sort-requires c =
     let asked = c.requires in
     let loaded = c.load_totals.ensures in
     (runs_totals asked.0 loaded, asked.2 ∙ sym (ap length loaded ∙ length_totals _ _))
-
-pub returns : goal.returns
-returns c = c.answer_of.ensures

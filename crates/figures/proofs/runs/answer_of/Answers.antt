@@ -1,6 +1,7 @@
 -- `answer_of` meets its contract: each field from the totals.
 use mathlib.Core.Path.{◌≡◌, sym, ap, ◌∙◌}
 use native.Mathlib.Omega.{arith}
+use lib.ListN.{length}
 use Rattle.rounding.specs.Nearest.{nearest}
 use Rattle.hypervolume.specs.Cells.{holds, box}
 use Rattle.words.specs.Layout.{read}
@@ -12,36 +13,25 @@ use Rattle.figures.proofs.Loading.{first_passes, runs_totals, sorted_long, share
 use Rattle.figures.proofs.Sorting.{sum_added}
 use Rattle.figures.proofs.Theorem.{sum_small}
 use Rattle.figures.proofs.Answering.{answer_is}
-use Rattle.figures.proofs.runs.answer_of.Goals.{After-box_of}
+use Rattle.figures.proofs.runs.answer_of.Goals.{Start, After-box_of}
 use Rattle.figures.proofs.runs.answer_of.Goals as goal
 
 boxed : (c : After-box_of) → c.box_of.result ≡ box_of (read c.args.w.now)
 unfolding read
 boxed c = c.box_of.ensures ∙ ap box c.reference_of.ensures
 
-pub bounds-sorted-0 : goal.bounds-sorted-0
-bounds-sorted-0 c =
-    let asked = c.requires in
-    let long : _ = sorted_long asked.0 asked.1 asked.2 in
-    omega (arith, asked.0.some)
+-- A number for each archive stands in ascending order.
+long : (c : Start) → length c.args.sorted.now ≡ length c.args.starts.now
+long c = sorted_long c.requires.0 c.requires.1 c.requires.2
 
-pub overflow_sub-greatest : goal.overflow_sub-greatest
-overflow_sub-greatest c = c.requires.0.some
+pub bounds-sorted-0 : goal.bounds-sorted-0
+bounds-sorted-0 c = omega (arith, long (goal.at.bounds-sorted-0 c).Start, c.requires.0.some)
 
 pub bounds-sorted-n : goal.bounds-sorted-n
-bounds-sorted-n c =
-    let asked = c.requires in
-    let long : _ = sorted_long asked.0 asked.1 asked.2 in
-    omega (arith, asked.0.some)
-
-pub overflow_sub-median : goal.overflow_sub-median
-overflow_sub-median c = omega (arith, c.requires.0.some)
+bounds-sorted-n c = omega (arith, long (goal.at.bounds-sorted-n c).Start, c.requires.0.some)
 
 pub bounds-sorted-n-2 : goal.bounds-sorted-n-2
-bounds-sorted-n-2 c =
-    let asked = c.requires in
-    let long : _ = sorted_long asked.0 asked.1 asked.2 in
-    omega (arith, asked.0.some)
+bounds-sorted-n-2 c = omega (arith, long (goal.at.bounds-sorted-n-2 c).Start, c.requires.0.some)
 
 pub sum-requires : goal.sum-requires
 sum-requires c =

@@ -1,11 +1,8 @@
 -- `load_totals` meets its contract: the loop's invariant is Loading.
 use borrow.Author.Rules.{rules}
 use Rattle.fleet.proofs.Loops.{start_room}
-use Rattle.figures.proofs.Loading.{loading_none, loading_more, loading_end}
+use Rattle.figures.proofs.Loading.{loading_more, loading_end}
 use Rattle.figures.proofs.runs.load_totals.Goals as goal
-
-pub loop-i-init : goal.loop-i-init
-loop-i-init c = loading_none _ _ _ c.requires.1
 
 pub overflow_add-out : goal.overflow_add-out
 overflow_add-out c =

@@ -3,4 +3,4 @@ use Rattle.figures.proofs.Loading.{same_by_words}
 use Rattle.figures.proofs.runs.same_reference.Goals as goal
 
 pub returns : goal.returns
-returns c = same_by_words _ _ c.both.ensures c.both-2.ensures
+returns c = same_by_words _ _ c.requires.0 c.requires.1 c.eq.ensures

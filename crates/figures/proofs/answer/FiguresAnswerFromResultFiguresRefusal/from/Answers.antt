@@ -1,6 +1,5 @@
 -- C's answer is made of what the call came to.
 use Rattle.hypervolume.specs.Cells.{holds}
-use Rattle.figures.specs.Outcome.{figures_of}
 use Rattle.figures.proofs.answer.FiguresAnswerFromResultFiguresRefusal.from.Goals as goal
 
 pub returns-then-figures : goal.returns-then-figures
