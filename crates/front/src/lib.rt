@@ -40,7 +40,7 @@ fn least(high: &[u32], middle: &[u32], low: &[u32], g: usize) -> u32
 }
 
 // One point more, whose equals begin at place g: whether none taken before stands earlier and is at most it on y. Its y is
-// entered in the levels.
+// entered in the levels. They are three slices and no struct: the lowest lies in the words of the keys, which saves 2 KiB of stack.
 fn enter(
     high: &mut [u32],
     middle: &mut [u32],

@@ -43,7 +43,8 @@ fn height_of(keys: &[u32], i: usize, rw: u32) -> u64
     hypervolume::edge(rw, keys[i] / 512)
 }
 
-// The points in turn, as their keys stand. Answers the total; in `own` the contributions, in `whose` of which point each is.
+// The points in turn, as their keys stand. Answers the total; in `own` the contributions, in `whose` of which point each is: two
+// slices, as `held::pass` takes them.
 fn pass_all(
     coords: &[u64],
     keys: &[u32],

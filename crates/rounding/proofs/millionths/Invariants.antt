@@ -1,10 +1,6 @@
 -- `millionths` meets its contract: after i turns the quotient has i digits more, and the rest behind the sixth rounds it.
-use Prim.Native.Nat.{◌-◌}
 use Rattle.rounding.proofs.Digits.{Dividing}
 use Rattle.rounding.proofs.millionths.Given as goal
 
 abbrev pub invariant-loop : goal.invariant-loop
 invariant-loop l = Dividing l.total l.whole l.quotient l.rest l.counter
-
-abbrev pub decreases-loop : goal.decreases-loop
-decreases-loop l = 6 - l.counter
