@@ -4,6 +4,8 @@ ghost use Rattle.axes.specs.Orders.{x, place_of, letters, rearranged};
 
 use hypervolume::Point;
 
+// An order is its number: C gives it so, and the callers of `write` count through all six.
+//
 // Which old axis comes first, second and third: xyz, xzy, yxz, yzx, zxy, zyx.
 const ORDERS: [[usize; 3]; 6] = [
     [0, 1, 2],

@@ -2,6 +2,7 @@
 // total and front are carried over; the one count is the audit's.
 ghost use Rattle.std.specs.Prelude.{◌≡◌, ◌++◌, ◌+◌, ◌*◌, ◌≤◌, ◌<◌, length, drop};
 ghost use Rattle.slices.specs.Put.{put};
+ghost use Rattle.refusals.specs.Table.{outcome};
 ghost use Rattle.words.specs.Layout.{word, record_words, records, extent, layout, read};
 ghost use Rattle.words.specs.Format.{archive_rows};
 ghost use Rattle.words.specs.Places.{as_shape, row_at};
@@ -12,6 +13,7 @@ use crate::arranging::arrange;
 use crate::orders::rearranged;
 use ask::audited;
 use records::put_record;
+use refusals::Refusal;
 use slices::clear;
 use words::{Record, Shape, put_header, record_at, reference_of, refusal};
 
@@ -33,10 +35,8 @@ fn put_records(w: &[u64], order: usize, keys: &[u32], second: &mut [u64])
     requires { (archive_rows w.now 0 ≡ 0) × (order < 6) × Named w.now keys.now × (8 + 5 * word w.now 0 ≤ length second.old) }
     ensures { second.new ≡ put second.old 8 (records (rows_by w.now order keys.now)) }
 {
-    let mut i = 0;
-    while i < keys.len() {
-        put_row(w, order, (keys[i] % 512) as usize, second, i);
-        i += 1;
+    for (i, key) in keys.iter().enumerate() {
+        put_row(w, order, (*key % 512) as usize, second, i);
     }
 }
 
@@ -79,33 +79,27 @@ pub fn write(w: &[u64], order: usize, second: &mut [u64])
 }
 
 // The rows of the call.
-fn rearrange_rows(w: &[u64], order: u64, room: usize) -> u64
-    ensures { result ≡ rearrange_rows w.now order room }
+fn rearrange_rows(w: &[u64], order: u64, room: usize) -> Result<(), Refusal>
+    ensures { outcome result ≡ rearrange_rows w.now order room }
 {
-    let refused = refusal(w);
-    if refused != 0 {
-        return refused;
-    }
+    refusal(w)?;
     if 5 < order {
-        return 22;
+        return Err(Refusal::BadOrder);
     }
     if !audited(w) {
-        return 13;
+        return Err(Refusal::Miscount);
     }
     if room < 8 + 5 * w[1] as usize {
-        return 1;
+        return Err(Refusal::SliceShort);
     }
-    0
+    Ok(())
 }
 
-// Rearrange (order, second slice). Answers 0 when done.
-pub fn rearrange(w: &[u64], order: u64, second: &mut [u64]) -> u64
-    ensures { (result ≡ (rearrange w.now order second.old).refusal) × (w.now ≡ (rearrange w.now order second.old).words) × (second.new ≡ (rearrange w.now order second.old).log) }
+// Rearrange (order, second slice).
+pub fn rearrange(w: &[u64], order: u64, second: &mut [u64]) -> Result<(), Refusal>
+    ensures { (outcome result ≡ (rearrange w.now order second.old).refusal) × (w.now ≡ (rearrange w.now order second.old).words) × (second.new ≡ (rearrange w.now order second.old).log) }
 {
-    let row = rearrange_rows(w, order, second.len());
-    if row != 0 {
-        return row;
-    }
+    rearrange_rows(w, order, second.len())?;
     write(w, order as usize, second);
-    0
+    Ok(())
 }

@@ -1,7 +1,5 @@
 -- `put_records` meets its contract: i records are written.
-use Prim.Native.Nat.{◌<◌}
 use native.Mathlib.Omega.{arith}
-use Rattle.calls.proofs.Known.{known}
 use Rattle.axes.proofs.Keys.{named_at}
 use Rattle.axes.proofs.rearranging.Storing.{records_none, records_more, records_end}
 use Rattle.axes.proofs.rearranging.put_records.Goals as goal
@@ -9,32 +7,13 @@ use Rattle.axes.proofs.rearranging.put_records.Goals as goal
 pub loop-i-init : goal.loop-i-init
 loop-i-init c = records_none _ _ _ _
 
-pub offset_bounds-keys-i : goal.offset_bounds-keys-i
-offset_bounds-keys-i c =
-    let few : c.loop-i.i < 512 = omega (arith, c.loop-i-test.true, c.requires.2.many, (known _ c.requires.0).few) in
-    omega (arith, few)
-
-pub bounds-keys-i : goal.bounds-keys-i
-bounds-keys-i c = c.loop-i-test.true
-
 pub put_row-requires : goal.put_row-requires
 put_row-requires c =
     (c.requires.0, c.requires.1, named_at c.requires.2 c.loop-i-test.true, omega (arith, c.loop-i-test.true, c.requires.2.many), omega (arith, c.loop-i.invariant.long, c.requires.3))
 
-pub overflow_add-i : goal.overflow_add-i
-overflow_add-i c =
-    let few : c.loop-i.i < 512 = omega (arith, c.loop-i-test.true, c.requires.2.many, (known _ c.requires.0).few) in
-    omega (arith, few)
-
-pub loop-i-smaller : goal.loop-i-smaller
-loop-i-smaller c = omega (arith, c.loop-i-test.true)
-
 pub loop-i-preserved : goal.loop-i-preserved
 loop-i-preserved c =
     records_more _ c.loop-i.invariant c.loop-i-test.true (omega (arith, c.requires.2.many, c.requires.3)) c.put_row.ensures c.put_row.auto.second
-
-pub shape_of-second : goal.shape_of-second
-shape_of-second c = c.loop-i.invariant.long
 
 pub returns : goal.returns
 returns c = records_end c.loop-i.invariant c.loop-i-test.false

@@ -2,6 +2,8 @@
 use Prim.Native.Nat.{ℕ}
 use mathlib.Core.Path.{◌≡◌, sym, ap, ◌∙◌}
 use mathlib.Core.List.{List}
+use Rattle.std.proofs.lemmas.Result.{err_from_is_err_and}
+use Rattle.refusals.proofs.Table.{number_positive}
 use Rattle.calls.specs.Lent.{Outcome}
 use Rattle.axes.proofs.Rows.{rearrangeable, refused, done}
 use Rattle.axes.proofs.rearranging.rearrange.Goals as goal
@@ -11,16 +13,17 @@ parts : {o : Outcome} {r v : ℕ} {w second : List ℕ} → o ≡ record { refus
     → (r ≡ o.refusal) × (w ≡ o.words) × (second ≡ o.log)
 parts e = (sym (ap (λ (o : Outcome). o.refusal) e), sym (ap (λ (o : Outcome). o.words) e), sym (ap (λ (o : Outcome). o.log) e))
 
-pub returns-then-row-ne0 : goal.returns-then-row-ne0
-returns-then-row-ne0 c = parts (refused _ _ _ c.rearrange_rows-row.ensures c.if-row-ne0.true)
+pub returns-in_err-rearrange_rows : goal.returns-in_err-rearrange_rows
+returns-in_err-rearrange_rows c =
+    let p = err_from_is_err_and c.from_residual.result c.from_residual.ensures.1 in
+    rw (p.1, p.2) (parts (refused _ _ _ c.in_err-rearrange_rows.ensures (number_positive _)))
 
 pub write-requires : goal.write-requires
 write-requires c =
-    let h = rearrangeable _ _ _ (sym c.rearrange_rows-row.ensures ∙ c.if-row-ne0.false) in
+    let h = rearrangeable _ _ _ (sym c.in_ok-rearrange_rows.ensures) in
     (h.passes, h.known, h.long)
 
 pub returns : goal.returns
 returns c =
-    let h = rearrangeable _ _ _ (sym c.rearrange_rows-row.ensures ∙ c.if-row-ne0.false) in
-    let made = parts (done _ _ _ h) in
+    let made = parts (done _ _ _ (rearrangeable _ _ _ (sym c.in_ok-rearrange_rows.ensures))) in
     (made.0, made.1, c.write.ensures ∙ made.2)
