@@ -68,6 +68,7 @@ fn recount(
 }
 
 // One drop from the first n places of the columns, by a tie rule, noted at `at`. Answers the new total.
+// The slices to count in are no struct: `update`, for which they are lent, takes them one by one, so it would be taken apart again.
 pub fn drop_least(
     numbers: &mut [u64],
     points: &mut [[u32; 3]],
