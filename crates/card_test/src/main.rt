@@ -4,19 +4,21 @@
 
 ghost use Rattle.std.specs.Prelude.{◌≤◌, ◌<◌, length};
 
+use calls::Answer;
+use card::{CardError, Loaded};
 use testing::{at, first, one, part, print};
 
-fn same_answer(a: card::Loaded, row: [u64; 7]) -> bool {
+fn same_answer(a: Loaded, row: [u64; 7]) -> bool {
     a.refusal == row[1] && a.line == row[2] && a.count == row[3]
 }
 
 // Whether the check says the same of the card; where few words are lent it says nothing of them.
 fn same_check(text: &[u8], row: [u64; 7]) -> bool {
-    let packed = card::check(text);
+    let packed = card::packed(card::check(text));
     row[0] < 2568 || packed / 65536 == row[1] && packed % 65536 == row[2]
 }
 
-fn load(words: &mut [u64], n: usize, text: &[u8]) -> card::Loaded
+fn load(words: &mut [u64], n: usize, text: &[u8]) -> Result<u64, CardError>
     requires { n ≤ length words.old }
 {
     card::load(&mut words[0..n], text)
@@ -54,8 +56,7 @@ fn same_words(words: &[u64], due: &[u8], lines: usize) -> bool {
 
 // The front that is due: the sixth number of the first line.
 fn front_due(due: &[u8]) -> u64 {
-    let row = testing::numbers(due, 0);
-    row[5]
+    testing::numbers(due, 0)[5]
 }
 
 // Whether the words are those of an archive with this count of trials: the lines due, or the largest card.
@@ -74,7 +75,7 @@ fn holds(words: &[u64], due: &[u8], count: u64) -> bool {
 fn judged(text: &[u8], due: &[u8], row: [u64; 7]) -> bool {
     let mut words = [7u64; 2568];
     let n = (row[0] % 2569) as usize;
-    let a = load(&mut words, n, text);
+    let a = Loaded::from(load(&mut words, n, text));
     same_answer(a, row)
         && at(&words, 0) == row[6]
         && testing::filled(&words, row[5] as usize, 7)
@@ -82,13 +83,13 @@ fn judged(text: &[u8], due: &[u8], row: [u64; 7]) -> bool {
         && (row[1] != 0 || holds(first(&words, row[5] as usize), due, row[3]))
 }
 
-fn report(words: &[u64], out: &mut [u8], n: usize) -> calls::Answer
+fn report(words: &[u64], out: &mut [u8], n: usize) -> Answer
     requires { n ≤ length out.old }
 {
-    reports::report(words, &mut out[0..n])
+    Answer::from(reports::report(words, &mut out[0..n]))
 }
 
-fn says(a: calls::Answer, row: [u64; 7]) -> bool {
+fn says(a: Answer, row: [u64; 7]) -> bool {
     a.refusal == row[4] && a.value == row[5]
 }
 
@@ -96,7 +97,7 @@ fn says(a: calls::Answer, row: [u64; 7]) -> bool {
 fn reported(text: &[u8], from: usize, row: [u64; 7]) -> bool {
     let mut words = [7u64; 2568];
     let mut out = [b'.'; 300];
-    card::load(&mut words, part(text, from, 165));
+    let _ = card::load(&mut words, part(text, from, 165));
     testing::put(&mut words, row[1] as usize, row[2]);
     let a = report(
         first(&words, row[0] as usize),
@@ -137,12 +138,7 @@ fn scattered_at(words: &[u64], k: usize) -> bool {
 
 // Whether the records are the trials of the largest card, in their order.
 fn scattered(words: &[u64]) -> bool {
-    for i in 0..512usize {
-        if !scattered_at(words, 5 * i + 8) {
-            return false;
-        }
-    }
-    true
+    (0..512usize).all(|i| scattered_at(words, 5 * i + 8))
 }
 
 // Writes the largest card, of 512 trials, and a trial more; the bytes are line ends.
@@ -156,10 +152,7 @@ fn scatter(bytes: &mut [u8])
 
 // The bytes from `from` on.
 fn behind(text: &[u8], from: usize) -> &[u8] {
-    if text.len() < from {
-        return &text[..0];
-    }
-    &text[from..]
+    text.get(from..).unwrap_or(&[])
 }
 
 // Whether a line of this name comes out as it should; no for the others.

@@ -25,28 +25,18 @@ pub fn one(yes: bool) -> u64
 
 // The word at i; 0 behind the end.
 pub fn at(w: &[u64], i: usize) -> u64 {
-    if i < w.len() { w[i] } else { 0 }
+    w.get(i).copied().unwrap_or(0)
 }
 
 pub fn put(w: &mut [u64], i: usize, value: u64) {
-    if i < w.len() {
-        w[i] = value;
+    if let Some(word) = w.get_mut(i) {
+        *word = value;
     }
-}
-
-// Whether the words are the same.
-pub fn same(a: &[u64], b: &[u64]) -> bool {
-    a == b
 }
 
 // Whether the words from `from` on all have this value.
 pub fn filled(words: &[u64], from: usize, value: u64) -> bool {
-    for i in from..words.len() {
-        if words[i] != value {
-            return false;
-        }
-    }
-    true
+    words.iter().skip(from).all(|word| *word == value)
 }
 
 // Prints both. Where a write fails, the output is not the one that is due, and that it is compared with.
@@ -70,54 +60,40 @@ pub fn read_full<R: Read>(input: &mut R, bytes: &mut [u8]) -> usize
 
 // The first n words, as far as there are so many.
 pub fn first(words: &[u64], n: usize) -> &[u64] {
-    if words.len() < n {
-        return words;
-    }
-    &words[0..n]
+    words.get(..n).unwrap_or(words)
 }
 
 // The n bytes from `from` on; none where there are not so many.
 pub fn part(text: &[u8], from: usize, n: usize) -> &[u8] {
-    if text.len() < from {
-        return &text[..0];
-    }
-    if text.len() - from < n {
-        return &text[..0];
-    }
-    &text[from..from + n]
+    text.get(from..)
+        .and_then(|rest| rest.get(..n))
+        .unwrap_or(&[])
 }
 
 // A script has a line to a call: its name, then numbers, all parted by spaces.
 
 // The first place from `from` on that is no space.
 fn past_spaces(text: &[u8], from: usize) -> usize {
-    for i in from..text.len() {
-        if text[i] != b' ' {
-            return i;
-        }
-    }
-    text.len().max(from)
+    (from..text.len())
+        .find(|i| text[*i] != b' ')
+        .unwrap_or(text.len().max(from))
 }
 
 // The first place from `from` on that is a space or ends the line.
 fn past_word(text: &[u8], from: usize) -> usize {
-    for i in from..text.len() {
-        if text[i] <= b' ' {
-            return i;
-        }
-    }
-    text.len().max(from)
+    (from..text.len())
+        .find(|i| text[*i] <= b' ')
+        .unwrap_or(text.len().max(from))
 }
 
 // The number of the digits from `from` on, up to 19 of them; 0 where there is none.
 fn number(text: &[u8], from: usize) -> u64 {
     let mut value: u64 = 0;
-    for i in from..text.len() {
-        let byte = text[i];
-        if byte < b'0' || b'9' < byte {
+    for byte in text.iter().skip(from) {
+        if !byte.is_ascii_digit() {
             return value;
         }
-        value = value % 1000000000000000000 * 10 + (byte - b'0') as u64;
+        value = value % 1000000000000000000 * 10 + u64::from(*byte - b'0');
     }
     value
 }
@@ -128,9 +104,9 @@ pub fn numbers(text: &[u8], from: usize) -> [u64; 7]
 {
     let mut row = [0u64; 7];
     let mut place = from;
-    for k in 0..7usize {
+    for value in &mut row {
         place = past_spaces(text, past_word(text, place));
-        row[k] = number(text, place);
+        *value = number(text, place);
     }
     row
 }
@@ -140,17 +116,14 @@ pub fn next_line(text: &[u8], from: usize) -> usize
     requires { from < length text.now }
     ensures { (from < result) × (result ≤ length text.now) }
 {
-    for i in from..text.len() {
-        if text[i] == b'\n' {
-            return i + 1;
-        }
-    }
-    text.len()
+    (from..text.len())
+        .find(|i| text[*i] == b'\n')
+        .map_or(text.len(), |i| i + 1)
 }
 
 // A coordinate of the points; beyond the box behind the end.
 fn coordinate(points: &[u32], i: usize) -> u32 {
-    if i < points.len() { points[i] } else { 8 }
+    points.get(i).copied().unwrap_or(8)
 }
 
 // The point of this number below 16, from 0.
@@ -179,11 +152,9 @@ fn inside(reference: Point, cell: u32) -> bool {
 
 // How many of the points, three coordinates each, dominate the cell. They are at most 12.
 fn cover(points: &[u32], cell: u32) -> u64 {
-    let mut found: u64 = 0;
-    for t in 0..12usize {
-        found = found % 100 + one(dominates(point_at(points, t), cell));
-    }
-    found
+    (0..12usize)
+        .filter(|t| dominates(point_at(points, *t), cell))
+        .count() as u64
 }
 
 // Whether p dominates the cell, within the reference, and from `least` to `most` of the points do.
@@ -197,9 +168,7 @@ fn counts(points: &[u32], reference: Point, p: Point, cell: u32, least: u64, mos
 
 // How many cells p dominates of which from `least` to `most` of the points do. The reference is at most 8 on each axis.
 pub fn cells(points: &[u32], reference: Point, p: Point, least: u64, most: u64) -> u64 {
-    let mut found: u64 = 0;
-    for cell in 0..512u32 {
-        found = found % 1000 + one(counts(points, reference, p, cell, least, most));
-    }
-    found
+    (0..512u32)
+        .filter(|cell| counts(points, reference, p, *cell, least, most))
+        .count() as u64
 }
