@@ -4,8 +4,8 @@ use lib.ListN.{length}
 use Rattle.corners.proofs.limits.LimitsLaws.{Bounding}
 use Rattle.corners.proofs.limits.limits.Given as goal
 
-abbrev pub invariant-loop-next : goal.invariant-loop-next
-invariant-loop-next l = Bounding l.points l.u.at l.offers.least l.offers.second l.limit.at l.i
+abbrev pub invariant-loop-i : goal.invariant-loop-i
+invariant-loop-i l = Bounding l.points l.u.at l.offers.least l.offers.second l.limit.at l.i
 
-abbrev pub decreases-loop-next : goal.decreases-loop-next
-decreases-loop-next l = length l.points - l.i
+abbrev pub decreases-loop-i : goal.decreases-loop-i
+decreases-loop-i l = length l.points - l.i
