@@ -1,8 +1,8 @@
 -- A double read as a whole number: what lies outside -1 to 2 ^ 64 is none, and what is read is what the double is.
-use Rattle.std.proofs.Common.{◌≡◌, ℕ, ◌+◌, ◌-◌, ◌*◌, ◌/◌, ◌^◌, ◌<◌, ◌≤◌, min, Bool, true, false, not, ◌&&◌, ◌||◌, T, eqb, ltb, leb, pos, sym, refl, ap, ◌∙◌, subst, true≢false, le_trans, le_of_eq, lt_of_lt_of_le, lt_irrefl, add_comm, mul-pos, one-mul, le-div_iff_mul-le, zero-mul, mul-one, mul_right_comm, mul-div_cancel, le-add_left, arith, lit<, lit≤, le→leb, eqb→eq, nltb→le, eq-eqb, eqb-true, le-leb, leb-true}
+use Rattle.std.proofs.Common.{◌≡◌, ℕ, ◌+◌, ◌-◌, ◌*◌, ◌/◌, ◌^◌, ◌<◌, ◌≤◌, min, Bool, true, false, not, ◌&&◌, ◌||◌, T, eqb, ltb, leb, pos, sym, refl, ap, ◌∙◌, subst, true≢false, le_trans, le_of_eq, lt_of_lt_of_le, lt_irrefl, add_comm, mul-pos, one-mul, le-div_iff_mul-le, zero-mul, mul-one, mul_right_comm, mul-div_cancel, le-add_left, arith, lit<, lit≤, eqb→eq, nltb→le, eq-eqb, eqb-true, le-leb, leb-true}
 use native.Mathlib.Nat.{eq_of_mul-eq-mul_right}
 use lib.Dec.{not_T}
-use lib.Ieee.{Float, nan, inf, fin, binary64, up, down, lt, eq, to_unsigned, of_int, round, level, in_float}
+use lib.Ieee.{Float, nan, inf, fin, binary64, up, down, lt, eq, to_unsigned, of_int, round, level}
 use lib.Ieee.Bits.{is_false}
 use lib.Ieee.Fits.{down_pos}
 use lib.Ieee.Exact.{HasValue}
@@ -78,11 +78,6 @@ differs (fin true m e) h =
 
 pub read_below : (x : Float) → lt (fin true 1 (pos 0)) x ≡ false → 1048577 ≡ number_of x
 read_below x h = read_other x (differs x h)
-
--- A number that a double holds.
-pub castable : (n : ℕ) → n ≤ 2 ^ 53 → T (in_float binary64 (pos n))
-unfolding in_float
-castable n h = le→leb n (2 ^ 53) h
 
 -- ---- what is read is what the double is
 

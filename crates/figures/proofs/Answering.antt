@@ -74,12 +74,3 @@ module _ (w : List ℕ) (n : ℕ) where
 
 pub numbered : (number : ℕ) {some : Bool} → some ≡ within 1 15 number → some ≡ true → (1 ≤ number) × (number ≤ 15)
 numbered number e f = within_bounds 1 15 number (sym e ∙ f)
-
--- 1 for yes, 0 for no.
-pub holds_one : (t : Bool) → t ≡ true → ◌≡◌ {A = ℕ} 1 (holds t)
-unfolding holds
-holds_one t e = rw e
-
-pub holds_none : (t : Bool) → t ≡ false → ◌≡◌ {A = ℕ} 0 (holds t)
-unfolding holds
-holds_none t e = rw e

@@ -32,10 +32,6 @@ pub record Loading (w starts : List ℕ) (i : ℕ) (out : List ℕ) : Type 0 whe
   pub long : length out ≡ length starts
   pub there : (k : ℕ) → k < i → get_or out k 0 ≡ word (past k w) 5
 
-pub loading_none : (w starts out : List ℕ) → length out ≡ length starts → Loading w starts 0 out
-loading_none w starts out e =
-    record { part = omega arith; long = e; there = λ k b. absurd (let no : ⊥ = omega arith in no) }
-
 module _ {w starts : List ℕ} {i : ℕ} {out : List ℕ} (h : Loading w starts i out) where
   pub loading_more : Starts w starts → i < length starts → Loading w starts (i + 1) (set out i (word w (get_or starts i 0 + 5)))
   loading_more s l =

@@ -138,9 +138,6 @@ pub level_bounded : {place : ℕ → ℕ} {points : List (List ℕ)} {taken leve
 level_bounded {place} {points} {taken} h v l =
     rw (h.each v l) (least_bound (λ k. behind (place k) v) (y_of points) taken)
 
-pub extra_bound : {table : List ℕ} → Extra table → (j : ℕ) → get_or table j 0 ≤ 2097152
-extra_bound h j = by_order 8 j (λ a. omega (arith, h.further j a)) (λ a. omega (arith, h.up_to j a))
-
 -- The loop that enters a y: the first n of the eight are done.
 pub record Lowering (old : List ℕ) (at y n : ℕ) (now : List ℕ) : Type 0 where
   pub part : n ≤ 8
@@ -254,10 +251,6 @@ counting_more {points} {keys} {i} {high} {middle} {low} {unbeaten} {high_after} 
 
 pub entered_one : {high middle low : List ℕ} {g y r : ℕ} {high_after middle-after low-after : List ℕ} → Entered high middle low g y r high_after middle-after low-after → r ≤ 1
 entered_one {high} {middle} {low} {g} {y} n = omega (arith, n.told, holds_le_one (ltb y (min (get_or high (g / 64) 0) (min (get_or middle (g / 8) 0) (get_or low g 0)))))
-
-pub counting_end : {points : List (List ℕ)} {keys : List ℕ} {i : ℕ} {high middle low : List ℕ} {unbeaten : ℕ} → Counting points keys i high middle low unbeaten → length keys ≤ i
-    → unbeaten ≡ alone points keys (length keys)
-counting_end {points} {keys} {i} h l = h.so_far ∙ ap (alone points keys) (let e : i ≡ length keys = omega (arith, h.part) in e)
 
 -- A test as the code counts it.
 pub counted : (t : Bool) → from_bool t ≡ holds t

@@ -190,11 +190,6 @@ module _ {points : List (List ℕ)} {size : ℕ} {best : Seen} {stood first m i 
     pub first_fits : f < 512
     first_fits = low f found_first
 
-pub sieving_end : {points : List (List ℕ)} {size : ℕ} {best : Seen} {stood first m i : ℕ} {keys : List ℕ} → Sieving points size best stood first m i keys → length points ≤ i
-    → (m ≤ length points) × Sieved points (length points) (take m keys)
-sieving_end {points} {size} {best} {stood} {first} {m} {i} {keys} h l =
-    (omega (arith, h.few, h.part), subst (λ n. Sieved points n (take m keys)) (let e : i ≡ length points = omega (arith, h.part) in e) h.sieved)
-
 -- The keys as they come: their places ascend.
 record Ascends (points : List (List ℕ)) (i : ℕ) (keys : List ℕ) : Type 0 where
   few : length keys ≤ i

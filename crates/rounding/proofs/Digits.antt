@@ -1,7 +1,7 @@
 -- Long division, digit by digit: total × 10^i is quotient × whole and a rest below it.
 use Prim.Native.Nat.{ℕ, ◌+◌, ◌*◌, ◌/◌, ◌%◌, ◌^◌, ◌≤◌, ◌<◌}
 use mathlib.Core.Path.{◌≡◌, sym, ap, ◌∙◌}
-use native.Mathlib.Nat.{add-mul, div-add-mod', le_of_mul-le-mul_right, le_trans, mod-lt, mul_assoc, mul_comm, mul-le-mul_right, mul-one, mul_right_comm, pow-le-pow_right, pow-suc}
+use native.Mathlib.Nat.{add-mul, div-add-mod', le_of_mul-le-mul_right, le_trans, mod-lt, mul_assoc, mul_comm, mul-le-mul_right, mul_right_comm, pow-le-pow_right, pow-suc}
 use native.Mathlib.Numerals.{add-one}
 use native.Mathlib.Omega.{arith}
 use Rattle.rounding.specs.Nearest.{rounded, nearest}
@@ -19,16 +19,6 @@ small_quotient total whole quotient rest i one l six e =
     let turned : whole * 10 ^ i ≡ 10 ^ i * whole = mul_comm whole (10 ^ i) in
     let scaled : quotient * whole ≤ 10 ^ i * whole = omega arith in
     le_trans (le_of_mul-le-mul_right scaled one) (pow-le-pow_right (let p : 0 < 10 = omega arith in p) six)
-
-pub dividing_none : (total whole : ℕ) → 1 ≤ whole → total ≤ whole → Dividing total whole (total / whole) (total % whole) 0
-dividing_none total whole one l =
-    let digits : total * 10 ^ 0 ≡ total / whole * whole + total % whole = mul-one total ∙ sym (div-add-mod' total whole) in
-    record {
-      part = omega arith;
-      digits = digits;
-      below = mod-lt total one;
-      small = small_quotient total whole (total / whole) (total % whole) 0 one l (omega arith) digits;
-    }
 
 next_digit : (t w q r d m : ℕ) → t ≡ q * w + r → d * w + m ≡ r * 10 → t * 10 ≡ (q * 10 + d) * w + m
 next_digit t w q r d m e f =
@@ -56,7 +46,3 @@ dividing_end {total} {whole} {quotient} {rest} {i} h l =
     let six : i ≡ 6 = let part : i ≤ 6 = h.part in omega arith in
     let digits : quotient * whole + rest ≡ total * 10 ^ 6 = sym h.digits ∙ ap (λ k. total * 10 ^ k) six in
     nearest_parts quotient rest whole h.below ∙ ap (λ n. nearest n whole) digits
-
--- One more digit fits a word.
-pub digit_fits : {total whole quotient rest i : ℕ} → Dividing total whole quotient rest i → i < 6 → 1 ≤ whole → total ≤ whole → quotient * 10 + rest * 10 / whole ≤ 1000000
-digit_fits h l one le = (dividing_more h l one le).small

@@ -10,7 +10,7 @@ use native.Mathlib.Numerals.{add-one}
 use native.Mathlib.Omega.{arith}
 use lib.Dec.{ltb, eqb}
 use lib.ListN.{length, take, drop, get_or, set, length-set, length-map, length-append, length-drop, get_or-append}
-use lib.Seq.{length-take-le, get_or-take, take_all, drop-set-lt, get_or-append-add, get_or-drop}
+use lib.Seq.{length-take-le, get_or-take, take_all, get_or-append-add, get_or-drop}
 use borrow.Author.Tests.{le-leb, lt-ltb, ltb-true, eqb-true}
 use Rattle.slices.specs.Put.{put}
 use Rattle.slices.specs.Spread.{spread, Stands}
@@ -65,12 +65,6 @@ module _ {sum : ℕ} {numbers places old now : List ℕ} {i : ℕ} (h : Putting 
       ap length h.done ∙ omega (arith, length-drop 1 old, h.placed.some)
 
   module _ (l : i < length places) where
-    pub putting_inside : get_or places i 0 + 1 < length now
-    putting_inside = omega (arith, h.placed.inside i l, putting_long)
-
-    pub putting_few : get_or places i 0 < 512
-    putting_few = h.placed.few i l
-
     pub putting_more : Putting sum numbers places old (set now (get_or places i 0 + 1) (get_or numbers i 0)) (i + 1)
     putting_more =
         record {
@@ -78,10 +72,6 @@ module _ {sum : ℕ} {numbers places old now : List ℕ} {i : ℕ} (h : Putting 
           part = omega arith;
           done = rw (h.done, add-one (get_or places i 0), add-one i, spread_more (drop 1 old) places numbers i h.placed.many l);
         }
-
-pub putting_end : {sum : ℕ} {numbers places now : List ℕ} {i : ℕ} (out : List ℕ) → Putting sum numbers places (set out 0 sum) now i → length places ≤ i → now ≡ sum ∷ spread (drop 1 out) places numbers
-putting_end {sum} {numbers} {places} {now} {i} out h l =
-    h.done ∙ rw (drop-set-lt 1 out 0 sum (omega arith), take_all i places l, take_all i numbers (omega (arith, h.placed.many)))
 
 -- ---- the points held are all points
 

@@ -4,8 +4,7 @@ use mathlib.Core.Path.{◌≡◌, refl, sym, ap, ◌∙◌}
 use mathlib.Core.List.{List, ◌∷◌, []}
 use native.Mathlib.Decide.{dec_lt}
 use native.Mathlib.Omega.{arith}
-use lib.ListN.{length, take, get_or, set, length-set, get_or-eq_default}
-use lib.Seq.{get_or-set_same, get_or-set_other}
+use lib.ListN.{length, take, get_or, get_or-eq_default}
 use Rattle.words.proofs.Passed.{each_bounds}
 use Rattle.order.specs.Keys.{Keyed, Few}
 use Rattle.sweep4.specs.Quadruples.{points_of}
@@ -67,23 +66,7 @@ pub record Keying (coords : List ℕ) (old keys : List ℕ) (i : ℕ) : Type 0 w
   pub long : length keys ≡ length old
   pub each : (j : ℕ) → j < i → get_or keys j 0 ≡ get_or coords (4 * j + 3) 0 * 512 + j
 
-pub keying_none : (coords keys : List ℕ) → Keying coords keys keys 0
-keying_none coords keys =
-    record { part = omega arith; long = refl; each = λ j l. absurd (let no' : ⊥ = omega arith in no') }
-
 module _ {coords old keys : List ℕ} {i : ℕ} (h : Keying coords old keys i) where
-  pub keying_more : i < length keys → Keying coords old (set keys i (get_or coords (4 * i + 3) 0 * 512 + i)) (i + 1)
-  keying_more l =
-      record {
-        part = omega (arith, h.long);
-        long = length-set keys i (get_or coords (4 * i + 3) 0 * 512 + i) ∙ h.long;
-        each = λ j m. go j (dec_lt j i) m;
-      }
-    where
-      go : (j : ℕ) → Dec (j < i) → j < i + 1 → get_or (set keys i (get_or coords (4 * i + 3) 0 * 512 + i)) j 0 ≡ get_or coords (4 * j + 3) 0 * 512 + j
-      go j (yes a) m = get_or-set_other keys i j (get_or coords (4 * i + 3) 0 * 512 + i) 0 (λ q. omega arith) ∙ h.each j a
-      go j (no a) m = let last : j ≡ i = omega arith in rw last (get_or-set_same keys i (get_or coords (4 * i + 3) 0 * 512 + i) 0 l)
-
   pub keying_end : length old ≡ length coords / 4 → length keys ≤ i → Keyed 3 (points_of coords) keys
   keying_end e l =
       record {

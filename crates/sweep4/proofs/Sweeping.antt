@@ -271,9 +271,5 @@ module _ {coords keys reference : List ℕ} {r₄ : ℕ} (t : Taking coords keys
               seen = seen_now;
             }
 
-  pub sweeping_end : {points : List (List ℕ)} {own whose : List ℕ} {corners : List (List ℕ)} {places line counts : List ℕ} {sum i : ℕ} → Sweeping coords keys reference r₄ points own whose corners places line counts sum i → length keys ≤ i
-      → Swept (reference ++ (r₄ ∷ [])) (points_of coords) keys (length keys) own whose sum
-  sweeping_end {i = i} h m = let last : length keys ≡ i = omega (arith, h.part) in rw last h.swept
-
 pub sweeping_counted : {coords keys own whose : List ℕ} {sum : ℕ} (reference : List ℕ) (r₄ : ℕ) → Taking coords keys reference r₄ → Swept (reference ++ (r₄ ∷ [])) (points_of coords) keys (length keys) own whose sum → Counted (reference ++ (r₄ ∷ [])) (points_of coords) own whose sum
 sweeping_counted reference r₄ t s = record { keys = _; taken = t.taken; swept = s }

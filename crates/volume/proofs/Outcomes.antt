@@ -1,21 +1,19 @@
 -- How the call ends: by which row, or with the figure.
 use Prim.Native.Nat.{ℕ, ◌/◌, ◌%◌, ◌≤◌, ◌<◌}
-use mathlib.Core.Path.{◌≡◌, refl, ap, ◌∙◌}
+use mathlib.Core.Path.{◌≡◌, refl, ◌∙◌}
 use mathlib.Core.Bool.{Bool, true, false, not}
 use mathlib.Core.List.{List, map}
-use lib.ListN.{length, take}
+use lib.ListN.{length}
 use lib.Ieee.{Float}
 use borrow.Author.Tests.{lt-ltb, le-ltb, eq-eqb, ne_eqb}
 use Rattle.slices.specs.Choices.{both, pick}
 use Rattle.words.specs.Format.{guard, within, each}
 use Rattle.hypervolume.specs.Sorted.{Small}
 use Rattle.words.proofs.Passed.{each_bounds}
-use Rattle.order.specs.Keys.{Keyed, Few}
 use Rattle.doubles.specs.Doubles.{number_of}
 use Rattle.volume.specs.declared.Corner.{Corner}
 use Rattle.volume.specs.Volume.{Volume, Cells, Refused, corner, points_of, volume_rows, figure_of, figure, volume_or, volume}
-use Rattle.volume.specs.Layering.{Readable, Loaded}
-use Rattle.volume.proofs.Reading.{points_many}
+use Rattle.volume.specs.Layering.{Readable}
 
 module _ (r : Corner) (ds : List Float) where
   pub row_17 : (length ds % 3 ≡ 0 → ⊥) → Refused 17 ≡ volume r ds
@@ -56,12 +54,3 @@ refused_points b v w e = rw e
 pub measured_points : (b : Bool) (u v w : Volume) → b ≡ true → u ≡ v → u ≡ pick b v w
 unfolding pick
 measured_points b u v w e f = rw e f
-
-pub loaded_many : {ds : List Float} {points : List (List ℕ)} {keys : List ℕ} → Loaded ds points keys → length (take (length ds / 3) points) ≡ length ds / 3
-loaded_many {ds} l = ap length l.all ∙ points_many ds
-
-pub loaded_few : {ds : List Float} {points : List (List ℕ)} {keys : List ℕ} → Loaded ds points keys → Few (take (length ds / 3) points)
-loaded_few l = rw l.all l.few
-
-pub loaded_keyed : {ds : List Float} {points : List (List ℕ)} {keys : List ℕ} → Loaded ds points keys → Keyed 2 (take (length ds / 3) points) (take (length ds / 3) keys)
-loaded_keyed l = rw l.all l.keyed

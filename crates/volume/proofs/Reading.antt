@@ -115,9 +115,6 @@ reading_none ds points keys e f =
 
 module _ {ds : List Float} (r : Readable ds) {points : List (List ℕ)} {keys : List ℕ} {i : ℕ} (h : Reading ds points keys i) where
   module _ (l : i < length ds / 3) where
-    pub reading_inside : 3 * i + 2 < length ds
-    reading_inside = omega arith
-
     pub reading_room : i < 512
     reading_room = omega (arith, r.few)
 
