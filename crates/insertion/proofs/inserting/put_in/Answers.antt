@@ -37,16 +37,16 @@ returns-in_err-moved c =
     rw (p.1, p.2, row_13.0) (record { answer = (row_13_given _ [] [] row_13.1).0; words = (row_13_given _ _ _ row_13.1).1 })
 
 pub slice_bounds-store-end : goal.slice_bounds-store-end
-slice_bounds-store-end c = in_places (goal.at.slice_bounds-store-end c).In_ok-moved
+slice_bounds-store-end c = omega (arith, in_places (goal.at.slice_bounds-store-end c).In_ok-moved)
 
 pub slice_bounds-store-end-2 : goal.slice_bounds-store-end-2
-slice_bounds-store-end-2 c = sym (length-take-le _ _ (in_places (goal.at.slice_bounds-store-end-2 c).In_ok-moved))
+slice_bounds-store-end-2 c = sym (length-take-le _ _ (omega (arith, in_places (goal.at.slice_bounds-store-end-2 c).In_ok-moved)))
 
 pub slice_bounds-store-end-3 : goal.slice_bounds-store-end-3
-slice_bounds-store-end-3 c = in_counts (goal.at.slice_bounds-store-end-3 c).In_ok-moved
+slice_bounds-store-end-3 c = omega (arith, in_counts (goal.at.slice_bounds-store-end-3 c).In_ok-moved)
 
 pub slice_bounds-store-end-4 : goal.slice_bounds-store-end-4
-slice_bounds-store-end-4 c = sym (length-take-le _ _ (in_counts (goal.at.slice_bounds-store-end-4 c).In_ok-moved))
+slice_bounds-store-end-4 c = sym (length-take-le _ _ (omega (arith, in_counts (goal.at.slice_bounds-store-end-4 c).In_ok-moved)))
 
 pub store-requires : goal.store-requires
 store-requires c = storing (c.in_ok-moved.ensures _) c.requires.0 (admitted c.args.w.now _ c.requires.0 c.requires.1).free
