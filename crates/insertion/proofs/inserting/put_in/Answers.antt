@@ -1,10 +1,9 @@
 -- `put_in` meets its contract: refused by row 13, or stored.
-use Prim.Native.Nat.{◌≤◌}
+use Prim.Native.Nat.{ℕ, ◌≤◌}
 use mathlib.Core.List.{[]}
-use mathlib.Core.Path.{refl, sym, subst}
+use mathlib.Core.Path.{refl, subst}
 use native.Mathlib.Omega.{arith}
-use lib.ListN.{length}
-use lib.Seq.{length-take-le}
+use lib.ListN.{length, length-take}
 use borrow.Author.Rules.{rules}
 use Rattle.std.proofs.lemmas.Result.{err_from_is_err_and}
 use Rattle.hypervolume.specs.Sorted.{Small}
@@ -40,13 +39,13 @@ pub slice_bounds-store-end : goal.slice_bounds-store-end
 slice_bounds-store-end c = omega (arith, in_places (goal.at.slice_bounds-store-end c).In_ok-moved)
 
 pub slice_bounds-store-end-2 : goal.slice_bounds-store-end-2
-slice_bounds-store-end-2 c = sym (length-take-le _ _ (omega (arith, in_places (goal.at.slice_bounds-store-end-2 c).In_ok-moved)))
+slice_bounds-store-end-2 c = omega (arith, length-take {A = ℕ}, in_places (goal.at.slice_bounds-store-end-2 c).In_ok-moved)
 
 pub slice_bounds-store-end-3 : goal.slice_bounds-store-end-3
 slice_bounds-store-end-3 c = omega (arith, in_counts (goal.at.slice_bounds-store-end-3 c).In_ok-moved)
 
 pub slice_bounds-store-end-4 : goal.slice_bounds-store-end-4
-slice_bounds-store-end-4 c = sym (length-take-le _ _ (omega (arith, in_counts (goal.at.slice_bounds-store-end-4 c).In_ok-moved)))
+slice_bounds-store-end-4 c = omega (arith, length-take {A = ℕ}, in_counts (goal.at.slice_bounds-store-end-4 c).In_ok-moved)
 
 pub store-requires : goal.store-requires
 store-requires c = storing (c.in_ok-moved.ensures _) c.requires.0 (admitted c.args.w.now _ c.requires.0 c.requires.1).free

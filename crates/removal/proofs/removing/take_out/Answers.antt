@@ -1,10 +1,9 @@
 -- `take_out` meets its contract: refused by row 13, or stored and its front counted.
-use mathlib.Core.Path.{refl, sym}
+use mathlib.Core.Path.{refl}
 use mathlib.Core.List.{[]}
-use Prim.Native.Nat.{◌≤◌}
+use Prim.Native.Nat.{ℕ, ◌≤◌}
 use native.Mathlib.Omega.{arith}
-use lib.ListN.{length}
-use lib.Seq.{length-take-le}
+use lib.ListN.{length, length-take}
 use borrow.Author.Rules.{rules}
 use Rattle.std.proofs.lemmas.Result.{err_from_is_err_and}
 use Rattle.calls.proofs.Answers.{row_13_given, row_13_passed}
@@ -30,13 +29,13 @@ pub slice_bounds-places-end : goal.slice_bounds-places-end
 slice_bounds-places-end c = omega (arith, in_places (goal.at.slice_bounds-places-end c).In_ok-moved)
 
 pub slice_bounds-store-end : goal.slice_bounds-store-end
-slice_bounds-store-end c = sym (length-take-le _ _ (omega (arith, in_places (goal.at.slice_bounds-store-end c).In_ok-moved)))
+slice_bounds-store-end c = omega (arith, length-take {A = ℕ}, in_places (goal.at.slice_bounds-store-end c).In_ok-moved)
 
 pub slice_bounds-counts-end : goal.slice_bounds-counts-end
 slice_bounds-counts-end c = omega (arith, in_counts (goal.at.slice_bounds-counts-end c).In_ok-moved)
 
 pub slice_bounds-store-end-2 : goal.slice_bounds-store-end-2
-slice_bounds-store-end-2 c = sym (length-take-le _ _ (omega (arith, in_counts (goal.at.slice_bounds-store-end-2 c).In_ok-moved)))
+slice_bounds-store-end-2 c = omega (arith, length-take {A = ℕ}, in_counts (goal.at.slice_bounds-store-end-2 c).In_ok-moved)
 
 pub store-requires : goal.store-requires
 store-requires c = striking c.in_ok-moved.ensures c.requires.0 (search rules) (search rules) c.requires.1
