@@ -24,7 +24,8 @@ pub fn count_all(w: &[u64], points: &[[u32; 3]], out: &mut [u64]) -> u64
 
 // The gain of p over the records but the one at place `skip` (over all where skip is the count), and its joint count
 // with each of them: `counts` has those at `places`, all others are 0. Counted in lent arrays, for those who count again and
-// again; of the others it does not matter what they hold.
+// again; of the others it does not matter what they hold. (Each by itself: a struct of the five would be put together anew at each
+// call, as the caller keeps two of them.)
 pub fn count_joints_in(
     w: &[u64],
     skip: usize,

@@ -1,15 +1,6 @@
 -- `count_joints_in` meets its contract: the points are loaded, and the update counts them.
-use mathlib.Core.Path.{sym}
-use native.Mathlib.Omega.{arith}
-use lib.Seq.{length-take-le}
 use Rattle.ask.proofs.LoadedPoints.{loaded, loaded_updating, joints_counted}
 use Rattle.ask.proofs.counts.count_joints_in.Goals as goal
-
-pub load_points-m-requires : goal.load_points-m-requires
-load_points-m-requires c = (c.requires.0, c.requires.1, c.requires.3.points_long)
-
-pub slice_bounds-update-end-2 : goal.slice_bounds-update-end-2
-slice_bounds-update-end-2 c = sym (length-take-le _ _ (omega (arith, c.load_points-m.ensures.few)))
 
 pub update-requires : goal.update-requires
 update-requires c =

@@ -1,16 +1,12 @@
 -- `audited` meets its contract: the points are loaded, and the counts compared.
-use mathlib.Core.Path.{refl, sym}
+use mathlib.Core.Path.{refl}
 use native.Mathlib.Omega.{arith}
-use lib.Seq.{length-take-le}
 use Rattle.calls.proofs.Known.{known}
 use Rattle.records.proofs.HeldPoints.{loaded_all}
 use Rattle.ask.proofs.questions.audited.Goals as goal
 
 pub bounds-w-0 : goal.bounds-w-0
 bounds-w-0 c = omega (arith, known c.args.w.now c.requires)
-
-pub slice_bounds-counts_agree-end : goal.slice_bounds-counts_agree-end
-slice_bounds-counts_agree-end c = sym (length-take-le _ _ (omega (arith, c.load_points-m.ensures.few)))
 
 pub counts_agree-requires : goal.counts_agree-requires
 counts_agree-requires c = (c.requires, loaded_all refl c.load_points-m.ensures)

@@ -26,9 +26,6 @@ few c = counted_few c.requires.0 c.count_joints-counted.ensures
 placed : (c : After-count_joints-counted) → Placed (length (leave_out c.args.i (read c.args.w.now).rows)) (take c.count_joints-counted.result.moved c.count_joints-counted.new.places) (take c.count_joints-counted.result.moved c.count_joints-counted.new.counts)
 placed c = counted_placed c.requires.0 c.count_joints-counted.ensures (search rules) (search rules)
 
-pub record_at-requires : goal.record_at-requires
-record_at-requires c = (c.requires.0, c.requires.1)
-
 pub count_joints-counted-requires : goal.count_joints-counted-requires
 count_joints-counted-requires c =
     (c.requires.0, omega (arith, c.requires.1), search rules, search rules, subst (λ q. Small q) (sym (read_point (goal.at.count_joints-counted-requires c).After-record_at)) (held_small c.args.w.now _ c.requires.0 c.requires.1))
@@ -44,9 +41,6 @@ slice_bounds-counts-end c = omega (arith, few (goal.at.slice_bounds-counts-end c
 
 pub slice_bounds-amount_at-end-2 : goal.slice_bounds-amount_at-end-2
 slice_bounds-amount_at-end-2 c = sym (length-take-le _ _ (omega (arith, few (goal.at.slice_bounds-amount_at-end-2 c).After-count_joints-counted, c.count_joints-counted.auto)))
-
-pub amount_at-requires : goal.amount_at-requires
-amount_at-requires c = (placed (goal.at.amount_at-requires c).After-count_joints-counted).many
 
 pub returns : goal.returns
 returns c =

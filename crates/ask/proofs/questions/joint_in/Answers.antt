@@ -1,7 +1,6 @@
 -- `joint_in` meets its contract: rows 9 and 10, then the joint count of the trials at the places found.
-use mathlib.Core.Path.{sym, ap, ap₂, ◌∙◌}
+use mathlib.Core.Path.{ap₂, ◌∙◌}
 use Rattle.words.specs.Layout.{read}
-use Rattle.words.specs.Places.{row_at}
 use Rattle.calls.specs.Calls.{joint_of}
 use Rattle.calls.specs.Lent.{joint}
 use Rattle.calls.proofs.Known.{known}
@@ -42,13 +41,6 @@ unfolding joint
 returns-then-first-second c =
     let at = goal.at.returns-then-first-second c in
     answer_row c.args.w.now 9 _ _ c.requires (joint_same_number _ _ _ (first_held at.In_ok-i).known (second_held at.In_ok-k).known c.if-first-second.true)
-
-pub joint_at-requires : goal.joint_at-requires
-joint_at-requires c =
-    let at = goal.at.joint_at-requires c in
-    let first = first_held at.In_ok-i in
-    let second = second_held at.In_ok-k in
-    (c.requires, first.inside, second.inside, λ e. c.if-first-second.false (sym first.there ∙ ap (λ k. (row_at c.args.w.now k).trial.number) e ∙ second.there))
 
 pub returns : goal.returns
 unfolding joint

@@ -1,6 +1,6 @@
 -- `least_in` meets its contract: row 18, row 14, or the record at the place found.
 use mathlib.Core.Bool.{true}
-use mathlib.Core.Path.{◌≡◌, refl, sym, ◌∙◌}
+use mathlib.Core.Path.{◌≡◌, sym, ◌∙◌}
 use native.Mathlib.Omega.{arith}
 use Rattle.words.specs.Places.{as_record}
 use Rattle.calls.specs.Calls.{rule_allowed}
@@ -20,12 +20,6 @@ bounds-w-0 c = omega (arith, known c.args.w.now c.requires)
 
 pub returns-then-n-eq0 : goal.returns-then-n-eq0
 returns-then-n-eq0 c = least_none_held c.args.w.now _ c.requires (allowed (goal.at.returns-then-n-eq0 c).Else-not-rule_allowed) c.if-n-eq0.true
-
-pub least_place-requires : goal.least_place-requires
-least_place-requires c = (c.requires, refl, omega (arith, c.if-n-eq0.false))
-
-pub record_at-least-requires : goal.record_at-least-requires
-record_at-least-requires c = (c.requires, c.least_place.ensures.0)
 
 pub returns : goal.returns
 returns c = least_found c.args.w.now _ c.requires (as_record c.record_at-least.result) (allowed (goal.at.returns c).Else-not-rule_allowed) c.if-n-eq0.false (c.record_at-least.ensures ∙ c.least_place.ensures.1)

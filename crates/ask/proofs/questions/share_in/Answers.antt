@@ -17,9 +17,6 @@ boxed c = c.box_of.ensures ∙ ap box c.reference_of.ensures
 pub bounds-w-5 : goal.bounds-w-5
 bounds-w-5 c = omega (arith, known c.args.w.now c.requires)
 
-pub reference_of-requires : goal.reference_of-requires
-reference_of-requires c = c.requires
-
 pub box_of-requires : goal.box_of-requires
 box_of-requires c = reference_small _ _ (known c.args.w.now c.requires).shaped c.reference_of.ensures
 
