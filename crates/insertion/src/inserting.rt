@@ -67,7 +67,6 @@ fn judge(
     Ok(Moved {
         amount: counted.gain,
         places: m,
-        fits: true,
     })
 }
 

@@ -124,11 +124,9 @@ pub fn amount_at(places: &[u16], counts: &[u64], place: usize) -> u64
     0
 }
 
-// What an update came to: the new or removed trial's counted amount, how many places have an amount of their own, and whether
-// every number stays from 0 to the box.
+// What an update came to: the new or removed trial's counted amount, and how many places have an amount of their own.
 #[derive(Clone, Copy)]
 pub struct Moved {
     pub amount: u64,
     pub places: usize,
-    pub fits: bool,
 }

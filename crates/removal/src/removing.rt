@@ -33,7 +33,6 @@ fn raised(w: &[u64], k: usize, places: &mut [u16], counts: &mut [u64]) -> Result
     Ok(Moved {
         amount: counted.gain,
         places: m,
-        fits: true,
     })
 }
 
