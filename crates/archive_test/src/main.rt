@@ -4,51 +4,55 @@
 
 ghost use Rattle.std.specs.Prelude.{◌≡◌, ◌≤◌, length};
 
-use calls::Answer;
+use calls::{Answer, LeastAnswer};
+use refusals::Refusal;
 use testing::{at, one};
 
-fn reduce_into(w: &mut [u64], keep: u64, rule: u64, log: &mut [u64], n: usize) -> Answer
+fn reduce_into(
+    w: &mut [u64],
+    keep: u64,
+    rule: u64,
+    log: &mut [u64],
+    n: usize,
+) -> Result<u64, Refusal>
     requires { n ≤ length log.old }
 {
     reduction::reduce(w, keep, rule, &mut log[0..n])
 }
 
-// A reduction into a log of up to 15 words, which a refusal has to leave as it was.
-fn reduce(w: &mut [u64], row: [u64; 7]) -> Answer {
+// A reduction into a log of up to 15 words, which a refusal has to leave as it was; none where it did not.
+fn reduce(w: &mut [u64], row: [u64; 7]) -> Option<Answer> {
     let mut log = [7u64; 15];
     let a = reduce_into(w, row[1], row[3], &mut log, (row[2] % 16) as usize);
-    if a.refusal == 0 || testing::filled(&log, 0, 7) {
-        return a;
-    }
-    Answer::refused(99)
+    (a.is_ok() || testing::filled(&log, 0, 7)).then_some(Answer::from(a))
 }
 
-// Another call that writes; its refusal.
-fn written(w: &mut [u64], name: u8, row: [u64; 7]) -> u64 {
-    if name == b'b' {
-        return insertion::start(w, row[2], row[3], row[4], row[1]);
+// Another call that writes.
+fn written(w: &mut [u64], name: u8, row: [u64; 7]) -> Result<(), Refusal> {
+    match name {
+        b'b' => insertion::start(w, row[2], row[3], row[4], row[1]),
+        b'i' => insertion::insert(w, row[1], row[2], row[3], row[4]),
+        _ => removal::remove(w, row[1]),
     }
-    if name == b'i' {
-        return insertion::insert(w, row[1], row[2], row[3], row[4]);
-    }
-    removal::remove(w, row[1])
 }
 
 // A line that writes.
-fn change(w: &mut [u64], name: u8, row: [u64; 7]) -> Answer {
+fn change(w: &mut [u64], name: u8, row: [u64; 7]) -> Option<Answer> {
     if name == b'd' {
         return reduce(w, row);
     }
+    let mut refusal: u64 = 0;
     if name == b'p' {
         testing::put(w, row[1] as usize, row[2]);
-        return Answer::done(0);
+    } else {
+        refusal = refusals::number(written(w, name, row));
     }
-    Answer::refused(written(w, name, row))
+    Some(Answer { refusal, value: 0 })
 }
 
 // The least contributor by a tie rule, as one number.
 fn least(w: &[u64], rule: u64) -> Answer {
-    let a = ask::least(w, rule);
+    let a = LeastAnswer::from(ask::least(w, rule));
     Answer {
         refusal: a.refusal,
         value: a.number % 1000000000 * 1000000000 + a.contribution % 1000000000,
@@ -57,22 +61,17 @@ fn least(w: &[u64], rule: u64) -> Answer {
 
 // A line that asks.
 fn answer(w: &[u64], name: u8, row: [u64; 7]) -> Answer {
-    if name == b'l' {
-        return least(w, row[1]);
+    match name {
+        b'l' => least(w, row[1]),
+        b'j' => Answer::from(ask::joint(w, row[1], row[2])),
+        b'g' => Answer::from(ask::gain(w, row[2], row[3], row[4])),
+        b's' => Answer::from(ask::share(w)),
+        b'w' => Answer {
+            refusal: 0,
+            value: at(w, row[1] as usize),
+        },
+        _ => Answer::from(ask::audit(w)),
     }
-    if name == b'j' {
-        return ask::joint(w, row[1], row[2]);
-    }
-    if name == b'g' {
-        return ask::gain(w, row[2], row[3], row[4]);
-    }
-    if name == b's' {
-        return ask::share(w);
-    }
-    if name == b'w' {
-        return Answer::done(at(w, row[1] as usize));
-    }
-    ask::audit(w)
 }
 
 // Whether the answer is the line's.
@@ -83,7 +82,7 @@ fn says(a: Answer, row: [u64; 7]) -> bool {
 fn lend(w: &mut [u64], n: usize, name: u8, row: [u64; 7]) -> bool
     requires { n ≤ length w.old }
 {
-    says(change(&mut w[0..n], name, row), row)
+    change(&mut w[0..n], name, row).is_some_and(|a| says(a, row))
 }
 
 // Whether a line that writes comes out so, and leaves all words as they were where it is refused.
@@ -93,15 +92,23 @@ fn writes(w: &mut [u64], n: usize, name: u8, row: [u64; 7]) -> bool
     let mut before = [0u64; 2568];
     slices::copy(w, &mut before, 0);
     let right = lend(w, n, name, row);
-    right && (row[5] == 0 || testing::same(w, &before))
+    right && (row[5] == 0 || &*w == before.as_slice())
 }
 
-// What a line is, by the first letter of its name: 1 writes, 2 asks, 0 neither.
-fn kind(name: u8) -> u64 {
+// What a line is.
+enum Kind {
+    Writes,
+    Asks,
+    // A comment, or empty.
+    Neither,
+}
+
+// By the first letter of its name.
+fn kind_of(name: u8) -> Kind {
     match name {
-        b'b' | b'i' | b'r' | b'd' | b'p' => 1,
-        b'l' | b'j' | b'g' | b's' | b'a' | b'w' => 2,
-        _ => 0,
+        b'b' | b'i' | b'r' | b'd' | b'p' => Kind::Writes,
+        b'l' | b'j' | b'g' | b's' | b'a' | b'w' => Kind::Asks,
+        _ => Kind::Neither,
     }
 }
 
@@ -110,10 +117,10 @@ fn line(w: &mut [u64], name: u8, row: [u64; 7]) -> bool
     requires { length w.old ≡ 2568 }
 {
     let n = (row[0] % 2569) as usize;
-    match kind(name) {
-        1 => writes(w, n, name, row),
-        2 => says(answer(testing::first(w, n), name, row), row),
-        _ => false,
+    match kind_of(name) {
+        Kind::Writes => writes(w, n, name, row),
+        Kind::Asks => says(answer(testing::first(w, n), name, row), row),
+        Kind::Neither => false,
     }
 }
 

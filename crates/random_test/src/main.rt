@@ -4,6 +4,7 @@
 ghost use Rattle.std.specs.Prelude.{◌≤◌};
 
 use hypervolume::Point;
+use refusals::Refusal;
 use testing::{at, noise, one, point_at};
 
 // The book has a place for each trial 1 to 8, three coordinates: 2,000,000 where the trial is not held, so that it
@@ -41,14 +42,14 @@ fn contribution(book: &[u32], reference: Point, n: usize) -> u64 {
     testing::cells(book, reference, point_at(book, n), 1, 1)
 }
 
-// The least contributor; among equals the lowest number by rule 0, the highest by rule 1. 0 where there is none.
-fn least(book: &[u32], reference: Point, rule: u64) -> usize {
-    let mut found: usize = 0;
+// The least contributor, if there is one; among equals the lowest number by rule 0, the highest by rule 1.
+fn least(book: &[u32], reference: Point, rule: u64) -> Option<usize> {
+    let mut found = None;
     let mut bound: u64 = 1000;
     for n in 1..9usize {
         let c = contribution(book, reference, n);
         if held(book, n) && (c < bound || c == bound && rule == 1) {
-            found = n;
+            found = Some(n);
             bound = c;
         }
     }
@@ -65,21 +66,14 @@ fn beats(p: Point, q: Point) -> bool {
 
 // Whether some trial held beats this one.
 fn beaten(book: &[u32], n: usize) -> bool {
-    for m in 1..9usize {
-        if held(book, m) && beats(point_at(book, m), point_at(book, n)) {
-            return true;
-        }
-    }
-    false
+    (1..9usize).any(|m| held(book, m) && beats(point_at(book, m), point_at(book, n)))
 }
 
 // How many trials are on the front.
 fn front(book: &[u32]) -> u64 {
-    let mut on_it: u64 = 0;
-    for n in 1..9usize {
-        on_it = on_it % 100 + one(held(book, n) && !beaten(book, n));
-    }
-    on_it
+    (1..9usize)
+        .filter(|n| held(book, *n) && !beaten(book, *n))
+        .count() as u64
 }
 
 // The kept contribution of a trial, among the first 8 records.
@@ -92,34 +86,23 @@ fn kept(w: &[u64], number: u64) -> u64 {
     0
 }
 
-fn says(a: calls::Answer, refusal: u64, value: u64) -> bool {
-    a.refusal == refusal && a.value == value
-}
-
-// What the joint contribution of two trials is refused with.
-fn refused(book: &[u32], n: usize, m: usize) -> u64 {
+// The cells that both and no third dominate.
+fn joint(book: &[u32], reference: Point, n: usize, m: usize) -> Result<u64, Refusal> {
     if !held(book, n) || !held(book, m) {
-        return 9;
+        return Err(Refusal::NotHeld);
     }
-    if n == m { 10 } else { 0 }
-}
-
-// The cells that both and no third dominate; 0 where the question is refused.
-fn joint(book: &[u32], reference: Point, n: usize, m: usize, refusal: u64) -> u64 {
-    if refusal != 0 {
-        return 0;
+    if n == m {
+        return Err(Refusal::SameNumber);
     }
     let corner = point_at(book, n).join(point_at(book, m));
-    testing::cells(book, reference, corner, 2, 2)
+    Ok(testing::cells(book, reference, corner, 2, 2))
 }
 
 // 1 where the joint contribution of two trials is so.
 fn joint_agrees(book: &[u32], reference: Point, w: &[u64], n: usize, m: usize) -> u64
     ensures { result ≤ 1 }
 {
-    let refusal = refused(book, n, m);
-    let due = joint(book, reference, n, m, refusal);
-    one(says(ask::joint(w, n as u64, m as u64), refusal, due))
+    one(ask::joint(w, n as u64, m as u64) == joint(book, reference, n, m))
 }
 
 // Whether the total, the front, the contributions and joint contributions are the counts. The trials go in pairs n, n + step.
@@ -163,27 +146,27 @@ fn somewhere(reference: Point, set: u64, i: u64) -> Point {
 fn gain_agrees(book: &[u32], reference: Point, w: &[u64], p: Point) -> bool {
     let at = p.at;
     let gain = ask::gain(w, at[0] as u64, at[1] as u64, at[2] as u64);
-    says(gain, 0, testing::cells(book, reference, p, 0, 0))
+    gain == Ok(testing::cells(book, reference, p, 0, 0))
 }
 
-// Whether the least contributor that is dropped has this number and contribution; number 0 where there is none.
+// Whether the least contributor that is dropped has this number and contribution.
 fn drops(w: &mut [u64], rule: u64, number: u64, due: u64) -> bool {
     let mut log = [0u64; 2];
     let count = at(w, 0);
     if count == 0 {
-        return number == 0;
+        return false;
     }
     let least = ask::least(w, rule);
-    let a = reduction::reduce(w, count - 1, rule, &mut log);
-    says(a, 0, 1)
-        && testing::same(&log, &[number, due])
-        && least.number == number
-        && least.contribution == due
+    reduction::reduce(w, count - 1, rule, &mut log) == Ok(1)
+        && log == [number, due]
+        && least.is_ok_and(|l| l.number == number && l.contribution == due)
 }
 
-// Drops the least contributor from both.
+// Drops the least contributor from both; where there is none, none is held.
 fn drop_least(book: &mut [u32], reference: Point, w: &mut [u64], rule: u64) -> bool {
-    let n = least(book, reference, rule);
+    let Some(n) = least(book, reference, rule) else {
+        return at(w, 0) == 0;
+    };
     let due = contribution(book, reference, n);
     forget(book, n);
     drops(w, rule, n as u64, due)
@@ -191,7 +174,7 @@ fn drop_least(book: &mut [u32], reference: Point, w: &mut [u64], rule: u64) -> b
 
 fn inserts(w: &mut [u64], number: u64, p: Point) -> bool {
     let at = p.at;
-    insertion::insert(w, number, at[0] as u64, at[1] as u64, at[2] as u64) == 0
+    insertion::insert(w, number, at[0] as u64, at[1] as u64, at[2] as u64).is_ok()
 }
 
 // The same by a grid that has the trial twice, so that its number stops it the second time.
@@ -199,8 +182,8 @@ fn fills(w: &mut [u64], number: u64, p: Point) -> bool {
     let x = p.at[0] as u64;
     let y = p.at[1] as u64;
     let z = p.at[2] as u64;
-    let a = grid::insert_grid(w, &[number, x, y, z, number, x, y, z]);
-    a.refusal == 0 && a.inserted == 1 && a.stop == 7
+    let filled = grid::insert_grid(w, &[number, x, y, z, number, x, y, z]);
+    filled.is_ok_and(|f| f.inserted == 1 && f.stop == Some(Refusal::NumberHeld))
 }
 
 // One call on both: an insertion, alone or by a grid, a removal of the held, or a reduction by one.
@@ -212,7 +195,7 @@ fn step(book: &mut [u32], reference: Point, w: &mut [u64], set: u64, i: u64) -> 
     }
     if held(book, n) {
         forget(book, n);
-        return removal::remove(w, n as u64) == 0;
+        return removal::remove(w, n as u64).is_ok();
     }
     let p = somewhere(reference, set, i);
     enter(book, n, p);
@@ -243,8 +226,7 @@ fn lives(book: &mut [u32], reference: Point, w: &mut [u64], set: u64) -> bool {
     for i in 0..12u64 {
         right = right % 100 + turn(book, reference, w, set, i);
     }
-    let audited = says(ask::audit(w), 0, 1);
-    audited && right == 12
+    ask::audit(w) == Ok(true) && right == 12
 }
 
 // The archive of this number.
@@ -259,17 +241,13 @@ fn archive_agrees(set: u64) -> bool {
         ],
     };
     let r = reference.at;
-    insertion::start(&mut w, r[0] as u64, r[1] as u64, r[2] as u64, 8) == 0
+    insertion::start(&mut w, r[0] as u64, r[1] as u64, r[2] as u64, 8).is_ok()
         && lives(&mut book, reference, &mut w, set)
 }
 
 // How many of a hundred archives differ.
 fn differing() -> u64 {
-    let mut differ: u64 = 0;
-    for set in 0..100u64 {
-        differ = differ % 1000 + one(!archive_agrees(set));
-    }
-    differ
+    (0..100u64).filter(|set| !archive_agrees(*set)).count() as u64
 }
 
 fn main(rt: HostRuntime) {
