@@ -1,5 +1,5 @@
-// The C boundary: one exported function per call, each with the contract of the call itself. `include/trial_archive.h`
-// documents them for C.
+// The C boundary: one exported function per call, each with the contract of the call itself. What the call answers as a Result
+// becomes a number or a struct here, since C takes no enum. `include/trial_archive.h` documents the functions for C.
 #![tactic(auto)]
 
 ghost use Rattle.std.specs.Prelude.{◌∷◌, [], ◌≡◌};
@@ -24,105 +24,105 @@ use volume::{Corner, VolumeAnswer};
 pub extern "C" fn ta_start(words: &mut [u64], rx: u64, ry: u64, rz: u64, capacity: u64) -> u64
     ensures { (result ≡ (start words.old (shape_of capacity rx ry rz)).refusal) × (words.new ≡ (start words.old (shape_of capacity rx ry rz)).words) }
 {
-    insertion::start(words, rx, ry, rz, capacity)
+    refusals::number(insertion::start(words, rx, ry, rz, capacity))
 }
 
 #[unsafe(no_mangle)]
 pub extern "C" fn ta_insert(words: &mut [u64], number: u64, x: u64, y: u64, z: u64) -> u64
     ensures { (result ≡ (insert words.old (trial_of number x y z)).refusal) × (words.new ≡ (insert words.old (trial_of number x y z)).words) }
 {
-    insertion::insert(words, number, x, y, z)
+    refusals::number(insertion::insert(words, number, x, y, z))
 }
 
 #[unsafe(no_mangle)]
 pub extern "C" fn ta_insert_grid(words: &mut [u64], grid: &[u64]) -> GridAnswer
     ensures { (result ≡ (insert_grid words.old grid.now).answer) × (words.new ≡ (insert_grid words.old grid.now).words) }
 {
-    grid::insert_grid(words, grid)
+    GridAnswer::from(grid::insert_grid(words, grid))
 }
 
 #[unsafe(no_mangle)]
 pub extern "C" fn ta_remove(words: &mut [u64], number: u64) -> u64
     ensures { (result ≡ (remove words.old number).refusal) × (words.new ≡ (remove words.old number).words) }
 {
-    removal::remove(words, number)
+    refusals::number(removal::remove(words, number))
 }
 
 #[unsafe(no_mangle)]
 pub extern "C" fn ta_least(words: &[u64], rule: u64) -> LeastAnswer
     ensures { result ≡ least words.now rule }
 {
-    ask::least(words, rule)
+    LeastAnswer::from(ask::least(words, rule))
 }
 
 #[unsafe(no_mangle)]
 pub extern "C" fn ta_reduce(words: &mut [u64], k: u64, rule: u64, log: &mut [u64]) -> Answer
     ensures { MeetsOutcome (reduce words.old k rule log.old) result words.new log.new }
 {
-    reduction::reduce(words, k, rule, log)
+    Answer::from(reduction::reduce(words, k, rule, log))
 }
 
 #[unsafe(no_mangle)]
 pub extern "C" fn ta_joint(words: &[u64], first: u64, second: u64) -> Answer
     ensures { result ≡ joint words.now first second }
 {
-    ask::joint(words, first, second)
+    Answer::from(ask::joint(words, first, second))
 }
 
 #[unsafe(no_mangle)]
 pub extern "C" fn ta_gain(words: &[u64], x: u64, y: u64, z: u64) -> Answer
     ensures { result ≡ gain_answer words.now (trial_of 0 x y z) }
 {
-    ask::gain(words, x, y, z)
+    Answer::from(ask::gain(words, x, y, z))
 }
 
 #[unsafe(no_mangle)]
 pub extern "C" fn ta_replace_effect(words: &[u64], number: u64, x: u64, y: u64, z: u64) -> Change
     ensures { result ≡ replace_effect words.now number (trial_of 0 x y z) }
 {
-    replacement::replace_effect(words, number, x, y, z)
+    Change::from(replacement::replace_effect(words, number, x, y, z))
 }
 
 #[unsafe(no_mangle)]
 pub extern "C" fn ta_share(words: &[u64]) -> Answer
     ensures { result ≡ share words.now }
 {
-    ask::share(words)
+    Answer::from(ask::share(words))
 }
 
 #[unsafe(no_mangle)]
 pub extern "C" fn ta_audit(words: &[u64]) -> Answer
     ensures { result ≡ audit words.now }
 {
-    ask::audit(words)
+    Answer::from(ask::audit(words))
 }
 
 #[unsafe(no_mangle)]
 pub extern "C" fn ta_card_check(card: &[u8]) -> u64
     ensures { result ≡ check card.now }
 {
-    card::check(card)
+    card::packed(card::check(card))
 }
 
 #[unsafe(no_mangle)]
 pub extern "C" fn ta_card_load(words: &mut [u64], card: &[u8]) -> Loaded
     ensures { (result ≡ (load words.old card.now).answer) × (words.new ≡ (load words.old card.now).words) }
 {
-    card::load(words, card)
+    Loaded::from(card::load(words, card))
 }
 
 #[unsafe(no_mangle)]
 pub extern "C" fn ta_report(words: &[u64], out: &mut [u8]) -> Answer
     ensures { (result ≡ report words.now out.old) × (out.new ≡ reported words.now out.old) }
 {
-    reports::report(words, out)
+    Answer::from(reports::report(words, out))
 }
 
 #[unsafe(no_mangle)]
 pub extern "C" fn ta_card_write(words: &[u64], out: &mut [u8]) -> Answer
     ensures { (result ≡ write words.now out.old) × (out.new ≡ written words.now out.old) }
 {
-    writing::write(words, out)
+    Answer::from(writing::write(words, out))
 }
 
 #[unsafe(no_mangle)]
@@ -143,19 +143,19 @@ pub extern "C" fn ta_count4(
 ) -> u64
     ensures { (result ≡ count4 (rx ∷ ry ∷ rz ∷ rw ∷ []) coords.now out.old) × (out.new ≡ counted4 (rx ∷ ry ∷ rz ∷ rw ∷ []) coords.now out.old) }
 {
-    four::count4(rx, ry, rz, rw, coords, out)
+    refusals::number(four::count4(rx, ry, rz, rw, coords, out))
 }
 
 #[unsafe(no_mangle)]
 pub extern "C" fn ta_rearrange(words: &[u64], order: u64, second: &mut [u64]) -> u64
     ensures { (result ≡ (rearrange words.now order second.old).refusal) × (words.now ≡ (rearrange words.now order second.old).words) × (second.new ≡ (rearrange words.now order second.old).log) }
 {
-    axes::rearrange(words, order, second)
+    refusals::number(axes::rearrange(words, order, second))
 }
 
 #[unsafe(no_mangle)]
 pub extern "C" fn ta_figures(words: &[u64], number: u64) -> FiguresAnswer
     ensures { result ≡ figures words.now number }
 {
-    figures::figures(words, number)
+    FiguresAnswer::from(figures::figures(words, number))
 }
