@@ -9,11 +9,11 @@ loop-i-init c = ranked_none _ _ _ c.requires.1
 pub loop-i-preserved-then-least-next : goal.loop-i-preserved-then-least-next
 loop-i-preserved-then-least-next c = ranked_skip c.loop-i.invariant c.loop-i-test.true c.if-least-next.true
 
-pub loop-i-preserved-then-not-goes_first : goal.loop-i-preserved-then-not-goes_first
-loop-i-preserved-then-not-goes_first c = ranked_stay c.loop-i.invariant c.loop-i-test.true (sym c.goes_first.ensures ∙ c.if-not-goes_first.true)
+pub loop-i-preserved-then-goes_first : goal.loop-i-preserved-then-goes_first
+loop-i-preserved-then-goes_first c = ranked_first c.loop-i.invariant c.loop-i-test.true (sym c.goes_first.ensures ∙ c.if-goes_first.true)
 
 pub loop-i-preserved : goal.loop-i-preserved
-loop-i-preserved c = ranked_first c.loop-i.invariant c.loop-i-test.true (sym c.goes_first.ensures ∙ c.if-not-goes_first.false)
+loop-i-preserved c = ranked_stay c.loop-i.invariant c.loop-i-test.true (sym c.goes_first.ensures ∙ c.if-goes_first.false)
 
 pub returns : goal.returns
 returns c = ranked_end c.loop-i.invariant c.loop-i-test.false
