@@ -20,7 +20,7 @@ pub fn noise(set: u64, kind: u64, i: u64) -> u64
 pub fn one(yes: bool) -> u64
     ensures { result ≤ 1 }
 {
-    if yes { 1 } else { 0 }
+    u64::from(yes)
 }
 
 // The word at i; 0 behind the end.
@@ -49,6 +49,7 @@ pub fn read_full<R: Read>(input: &mut R, bytes: &mut [u8]) -> usize
     ensures { result ≤ length bytes.new }
 {
     let mut read = 0;
+    // No `for`: a turn steps by the bytes that it read.
     while read < bytes.len() {
         match input.read(&mut bytes[read..]) {
             Ok(more) if more > 0 => read += more,
@@ -63,9 +64,10 @@ pub fn first(words: &[u64], n: usize) -> &[u64] {
     words.get(..n).unwrap_or(words)
 }
 
-// The n bytes from `from` on; none where there are not so many.
-pub fn part(text: &[u8], from: usize, n: usize) -> &[u8] {
-    text.get(from..)
+// The n items from `from` on; none where there are not so many.
+pub fn part<T>(items: &[T], from: usize, n: usize) -> &[T] {
+    items
+        .get(from..)
         .and_then(|rest| rest.get(..n))
         .unwrap_or(&[])
 }
