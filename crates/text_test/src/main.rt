@@ -1,23 +1,15 @@
 // Reads fields and lines of the form and damaged ones, writes columns, and prints how many came out as they should.
 #![tactic(auto)]
 
-ghost use Rattle.std.specs.Prelude.{◌+◌, ◌≤◌, length};
+ghost use Rattle.std.specs.Prelude.{◌≤◌, length};
 
 use testing::{at, one, print};
-use text::Line;
 
-// One more than the value of the field at a byte; 0 where it is not of the form.
-fn value(fields: &[u8], from: usize) -> u64
-    requires { from + 8 ≤ length fields.now }
-{
-    text::field_at(fields, from).map_or(0, |v| v % 100000000 + 1)
-}
-
-// How many of the fields, one behind the other, have these values; 0 behind the last.
+// How many of the fields, one behind the other, have these values, and no value behind the last.
 fn fields(fields: &[u8], values: &[u64]) -> u64 {
     let mut found: u64 = 0;
     for i in 0..fields.len() / 8 {
-        found = found % 1000 + one(value(fields, 8 * i) == at(values, i));
+        found = found % 1000 + one(text::field_at(fields, 8 * i) == values.get(i).copied());
     }
     found
 }
@@ -25,7 +17,7 @@ fn fields(fields: &[u8], values: &[u64]) -> u64 {
 fn good_fields() -> u64 {
     fields(
         b"       0       9      10 10485761000000099999999",
-        &[1, 10, 11, 1048577, 10000001, 100000000],
+        &[0, 9, 10, 1048576, 10000000, 99999999],
     )
 }
 
@@ -37,27 +29,17 @@ fn damaged_fields() -> u64 {
     )
 }
 
-// 1 where the line at byte `at` has the values 8, 1, 22 and 333, 2 where it has others, 0 where it is not of the form.
-fn line(card: &[u8], at: usize) -> u64 {
-    match text::line_at(card, at) {
-        Some(
-            Line {
-                first: 8,
-                second: 1,
-                third: 22,
-                fourth: 333,
-            },
-        ) => 1,
-        Some(_) => 2,
-        None => 0,
-    }
+// The values of the line at a byte, where there is one of the form.
+fn values(card: &[u8], place: usize) -> Option<[u64; 4]> {
+    let line = text::line_at(card, place)?;
+    Some([line.first, line.second, line.third, line.fourth])
 }
 
-// How many of the lines at these bytes are so.
-fn lines_so(card: &[u8], places: &[usize], due: u64) -> u64 {
+// How many of the lines at these bytes have the values due.
+fn lines_so(card: &[u8], places: &[usize], due: Option<[u64; 4]>) -> u64 {
     let mut found: u64 = 0;
     for &place in places {
-        found = found % 1000 + one(line(card, place) == due);
+        found = found % 1000 + one(values(card, place) == due);
     }
     found
 }
@@ -80,9 +62,9 @@ fn lines() -> u64 {
         264,
         18446744073709551615,
     ];
-    lines_so(card, &[0, 33], 1) % 1000
-        + lines_so(card, damaged, 0) % 1000
-        + lines_so(b"", &[0], 0) % 1000
+    lines_so(card, &[0, 33], Some([8, 1, 22, 333])) % 1000
+        + lines_so(card, damaged, None) % 1000
+        + lines_so(b"", &[0], None) % 1000
 }
 
 // Writes the values into columns of these widths one behind the other, from byte 1 on, while there is room.
