@@ -27,27 +27,58 @@ fn reduce(w: &mut [u64], row: [u64; 7]) -> Option<Answer> {
     (a.is_ok() || testing::filled(&log, 0, 7)).then_some(Answer::from(a))
 }
 
-// Another call that writes.
-fn written(w: &mut [u64], name: u8, row: [u64; 7]) -> Result<(), Refusal> {
-    match name {
-        b'b' => insertion::start(w, row[2], row[3], row[4], row[1]),
-        b'i' => insertion::insert(w, row[1], row[2], row[3], row[4]),
-        _ => removal::remove(w, row[1]),
+// What a line of the script calls.
+#[derive(Clone, Copy)]
+enum Call {
+    Begin,
+    Insert,
+    Remove,
+    Drop,
+    Put,
+    Least,
+    Joint,
+    Gain,
+    Share,
+    Audit,
+    Word,
+    // A name that no call has.
+    Unknown,
+}
+
+// By the first letter of the line; none for a comment or an empty line.
+fn call_of(line: &[u8]) -> Option<Call> {
+    match line.first()? {
+        b'#' => None,
+        b'b' => Some(Call::Begin),
+        b'i' => Some(Call::Insert),
+        b'r' => Some(Call::Remove),
+        b'd' => Some(Call::Drop),
+        b'p' => Some(Call::Put),
+        b'l' => Some(Call::Least),
+        b'j' => Some(Call::Joint),
+        b'g' => Some(Call::Gain),
+        b's' => Some(Call::Share),
+        b'a' => Some(Call::Audit),
+        b'w' => Some(Call::Word),
+        _ => Some(Call::Unknown),
     }
 }
 
-// A line that writes.
-fn change(w: &mut [u64], name: u8, row: [u64; 7]) -> Option<Answer> {
-    if name == b'd' {
-        return reduce(w, row);
+// What is answered where there is nothing but a refusal to tell.
+fn done(outcome: Result<(), Refusal>) -> Answer {
+    Answer {
+        refusal: refusals::number(outcome),
+        value: 0,
     }
-    let mut refusal: u64 = 0;
-    if name == b'p' {
-        testing::put(w, row[1] as usize, row[2]);
-    } else {
-        refusal = refusals::number(written(w, name, row));
-    }
-    Some(Answer { refusal, value: 0 })
+}
+
+fn accepted(value: u64) -> Answer {
+    Answer { refusal: 0, value }
+}
+
+fn put(w: &mut [u64], place: usize, value: u64) -> Answer {
+    testing::put(w, place, value);
+    accepted(0)
 }
 
 // The least contributor by a tie rule, as one number.
@@ -59,18 +90,21 @@ fn least(w: &[u64], rule: u64) -> Answer {
     }
 }
 
-// A line that asks.
-fn answer(w: &[u64], name: u8, row: [u64; 7]) -> Answer {
-    match name {
-        b'l' => least(w, row[1]),
-        b'j' => Answer::from(ask::joint(w, row[1], row[2])),
-        b'g' => Answer::from(ask::gain(w, row[2], row[3], row[4])),
-        b's' => Answer::from(ask::share(w)),
-        b'w' => Answer {
-            refusal: 0,
-            value: at(w, row[1] as usize),
-        },
-        _ => Answer::from(ask::audit(w)),
+// The call's answer; none where it is never as it should be.
+fn answer(w: &mut [u64], call: Call, row: [u64; 7]) -> Option<Answer> {
+    match call {
+        Call::Begin => Some(done(insertion::start(w, row[2], row[3], row[4], row[1]))),
+        Call::Insert => Some(done(insertion::insert(w, row[1], row[2], row[3], row[4]))),
+        Call::Remove => Some(done(removal::remove(w, row[1]))),
+        Call::Drop => reduce(w, row),
+        Call::Put => Some(put(w, row[1] as usize, row[2])),
+        Call::Least => Some(least(w, row[1])),
+        Call::Joint => Some(Answer::from(ask::joint(w, row[1], row[2]))),
+        Call::Gain => Some(Answer::from(ask::gain(w, row[2], row[3], row[4]))),
+        Call::Share => Some(Answer::from(ask::share(w))),
+        Call::Audit => Some(Answer::from(ask::audit(w))),
+        Call::Word => Some(accepted(at(w, row[1] as usize))),
+        Call::Unknown => None,
     }
 }
 
@@ -79,49 +113,20 @@ fn says(a: Answer, row: [u64; 7]) -> bool {
     a.refusal == row[5] && a.value == row[6]
 }
 
-fn lend(w: &mut [u64], n: usize, name: u8, row: [u64; 7]) -> bool
+fn lend(w: &mut [u64], n: usize, call: Call, row: [u64; 7]) -> bool
     requires { n ≤ length w.old }
 {
-    change(&mut w[0..n], name, row).is_some_and(|a| says(a, row))
+    answer(&mut w[0..n], call, row).is_some_and(|a| says(a, row))
 }
 
-// Whether a line that writes comes out so, and leaves all words as they were where it is refused.
-fn writes(w: &mut [u64], n: usize, name: u8, row: [u64; 7]) -> bool
-    requires { (length w.old ≡ 2568) × (n ≤ 2568) }
+// Whether a call comes out as it should, and leaves all words as they were where it is refused.
+fn holds(w: &mut [u64], call: Call, row: [u64; 7]) -> bool
+    requires { length w.old ≡ 2568 }
 {
     let mut before = [0u64; 2568];
     slices::copy(w, &mut before, 0);
-    let right = lend(w, n, name, row);
+    let right = lend(w, (row[0] % 2569) as usize, call, row);
     right && (row[5] == 0 || &*w == before.as_slice())
-}
-
-// What a line is.
-enum Kind {
-    Writes,
-    Asks,
-    // A comment, or empty.
-    Neither,
-}
-
-// By the first letter of its name.
-fn kind_of(name: u8) -> Kind {
-    match name {
-        b'b' | b'i' | b'r' | b'd' | b'p' => Kind::Writes,
-        b'l' | b'j' | b'g' | b's' | b'a' | b'w' => Kind::Asks,
-        _ => Kind::Neither,
-    }
-}
-
-// Whether a line comes out as it should; no for those that have nothing to come out.
-fn line(w: &mut [u64], name: u8, row: [u64; 7]) -> bool
-    requires { length w.old ≡ 2568 }
-{
-    let n = (row[0] % 2569) as usize;
-    match kind_of(name) {
-        Kind::Writes => writes(w, n, name, row),
-        Kind::Asks => says(answer(testing::first(w, n), name, row), row),
-        Kind::Neither => false,
-    }
 }
 
 // How many lines come out as they should.
@@ -129,25 +134,19 @@ fn script(text: &[u8], w: &mut [u64]) -> u64
     requires { length w.old ≡ 2568 }
 {
     let mut right: u64 = 0;
-    let mut place: usize = 0;
-    while place < text.len() {
-        let row = testing::numbers(text, place);
-        right = right % 1000000 + one(line(w, text[place], row));
-        place = testing::next_line(text, place);
+    for line in text.split(|byte| *byte == b'\n') {
+        if let Some(call) = call_of(line) {
+            right = right % 1000000 + one(holds(w, call, testing::numbers(line, 0)));
+        }
     }
     right
 }
 
 // How many lines there are, without comments and empty ones.
 fn lines(text: &[u8]) -> u64 {
-    let mut all: u64 = 0;
-    let mut place: usize = 0;
-    while place < text.len() {
-        let name = text[place];
-        all = all % 1000000 + one(name != b'#' && name != b'\n');
-        place = testing::next_line(text, place);
-    }
-    all
+    text.split(|byte| *byte == b'\n')
+        .filter_map(call_of)
+        .count() as u64
 }
 
 fn main(rt: HostRuntime) {
