@@ -8,14 +8,15 @@ use calls::Answer;
 use card::{CardError, Loaded};
 use testing::{at, first, one, part, print};
 
+// The answer as C has it: the refusal, the line refused and the count.
 fn same_answer(a: Loaded, row: [u64; 7]) -> bool {
-    a.refusal == row[1] && a.line == row[2] && a.count == row[3]
+    [a.refusal, a.line, a.count].as_slice() == &row[1..4]
 }
 
 // Whether the check says the same of the card; where few words are lent it says nothing of them.
 fn same_check(text: &[u8], row: [u64; 7]) -> bool {
     let packed = card::packed(card::check(text));
-    row[0] < 2568 || packed / 65536 == row[1] && packed % 65536 == row[2]
+    row[0] < 2568 || [packed / 65536, packed % 65536].as_slice() == &row[1..3]
 }
 
 fn load(words: &mut [u64], n: usize, text: &[u8]) -> Result<u64, CardError>
@@ -29,16 +30,6 @@ fn place_of(line: usize) -> usize {
     if line == 0 { 1 } else { 5 * (line % 1024) + 3 }
 }
 
-// Whether the five words from k on are these.
-fn same_five(words: &[u64], k: usize, five: [u64; 7]) -> bool {
-    let from = k % 8192;
-    at(words, from) == five[0]
-        && at(words, from + 1) == five[1]
-        && at(words, from + 2) == five[2]
-        && at(words, from + 3) == five[3]
-        && at(words, from + 4) == five[4]
-}
-
 // Whether the words are those of so many lines, five to a line.
 fn same_words(words: &[u64], due: &[u8], lines: usize) -> bool {
     let mut from: usize = 0;
@@ -46,7 +37,7 @@ fn same_words(words: &[u64], due: &[u8], lines: usize) -> bool {
         if due.len() <= from {
             return false;
         }
-        if !same_five(words, place_of(i), testing::numbers(due, from)) {
+        if part(words, place_of(i), 5) != &testing::numbers(due, from)[0..5] {
             return false;
         }
         from = testing::next_line(due, from);
@@ -129,10 +120,7 @@ fn value(k: u64) -> u64 {
 fn scattered_at(words: &[u64], k: usize) -> bool {
     let from = k % 8192;
     let n = at(words, from) % 1024 * 4;
-    at(words, from) == value(n)
-        && at(words, from + 1) == value(n + 1)
-        && at(words, from + 2) == value(n + 2)
-        && at(words, from + 3) == value(n + 3)
+    part(words, from, 4) == [value(n), value(n + 1), value(n + 2), value(n + 3)].as_slice()
         && (2568 <= from + 5 || at(words, from + 3) < at(words, from + 8))
 }
 
@@ -155,48 +143,67 @@ fn behind(text: &[u8], from: usize) -> &[u8] {
     text.get(from..).unwrap_or(&[])
 }
 
-// Whether a line of this name comes out as it should; no for the others.
-fn line(text: &[u8], big: &[u8], name: u8, place: usize, from: usize) -> bool
-    requires { place < length text.now }
-{
-    if text[place] != name {
-        return false;
-    }
-    let row = testing::numbers(text, place);
-    if name == b'r' {
-        return reported(text, from, row);
-    }
-    let n = row[4] as usize;
-    if name == b'b' {
-        return judged(part(big, 0, n), b"", row);
-    }
-    judged(
-        part(text, from, n),
-        behind(text, from % 65536 + n % 65536),
-        row,
-    )
+// The kinds of line.
+#[derive(Clone, Copy, PartialEq, Eq)]
+enum Kind {
+    Form,
+    Shape,
+    Trial,
+    Slice,
+    Report,
+    Largest,
 }
 
-// How many lines of this name come out as they should.
-fn count(text: &[u8], big: &[u8], name: u8) -> u64 {
+// By the first letter of its name; none for the lines of cards, comments and empty lines.
+fn kind_of(name: u8) -> Option<Kind> {
+    match name {
+        b'f' => Some(Kind::Form),
+        b's' => Some(Kind::Shape),
+        b't' => Some(Kind::Trial),
+        b'l' => Some(Kind::Slice),
+        b'r' => Some(Kind::Report),
+        b'b' => Some(Kind::Largest),
+        _ => None,
+    }
+}
+
+// Whether a line of this kind comes out as it should; what it is about begins at `from`.
+fn comes_out(text: &[u8], big: &[u8], kind: Kind, row: [u64; 7], from: usize) -> bool {
+    let n = row[4] as usize;
+    match kind {
+        Kind::Form | Kind::Shape | Kind::Trial | Kind::Slice => judged(
+            part(text, from, n),
+            behind(text, from % 65536 + n % 65536),
+            row,
+        ),
+        Kind::Report => reported(text, from, row),
+        Kind::Largest => judged(part(big, 0, n), b"", row),
+    }
+}
+
+// How many lines of this kind come out as they should.
+fn count(text: &[u8], big: &[u8], kind: Kind) -> u64 {
     let mut right: u64 = 0;
     let mut place: usize = 0;
+    // No `for`: a turn steps to the next line, whose place the line is judged with.
     while place < text.len() {
         let from = testing::next_line(text, place);
-        right = right % 1000 + one(line(text, big, name, place, from));
+        let right_here = kind_of(text[place]) == Some(kind)
+            && comes_out(text, big, kind, testing::numbers(text, place), from);
+        right = right % 1000 + one(right_here);
         place = from;
     }
     right
 }
 
-// How many lines of each name come out as they should.
+// How many lines of each kind come out as they should.
 fn counts(rt: &impl Print, text: &[u8], big: &[u8]) {
-    print(rt, "forms ", count(text, big, b'f'));
-    print(rt, " shapes ", count(text, big, b's'));
-    print(rt, " trials ", count(text, big, b't'));
-    print(rt, " slices ", count(text, big, b'l'));
-    print(rt, " reports ", count(text, big, b'r'));
-    print(rt, " largest ", count(text, big, b'b'));
+    print(rt, "forms ", count(text, big, Kind::Form));
+    print(rt, " shapes ", count(text, big, Kind::Shape));
+    print(rt, " trials ", count(text, big, Kind::Trial));
+    print(rt, " slices ", count(text, big, Kind::Slice));
+    print(rt, " reports ", count(text, big, Kind::Report));
+    print(rt, " largest ", count(text, big, Kind::Largest));
 }
 
 fn main(rt: HostRuntime) {
