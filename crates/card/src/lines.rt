@@ -1,5 +1,5 @@
 // The lines of a card, read in turn.
-ghost use Rattle.std.specs.Prelude.{◌≡◌};
+ghost use Rattle.std.specs.Prelude.{◌≡◌, ◌+◌, MatchOption};
 ghost use Rattle.card.specs.Card.{due, due_of};
 
 use text::Line;
@@ -30,11 +30,15 @@ impl<'a> Reader<'a> {
         Reader { card, line }
     }
 
-    // The line next due.
-    pub fn next(self) -> Option<Option<Line>>
-        ensures { due_of result ≡ due self.entry.card.now self.entry.line }
+    // The line next due. The reading goes on to the line behind it; behind the last line it stays where it is.
+    pub fn next(&mut self) -> Option<Option<Line>>
+        ensures due { due_of result ≡ due self.old.card.now self.old.line }
+        ensures card { self.new.card ≡ self.old.card }
+        ensures line { MatchOption result (self.new.line ≡ self.old.line) (λ _. self.new.line ≡ self.old.line + 1) }
     {
-        line_due(self.card, self.line)
+        let l = line_due(self.card, self.line)?;
+        self.line += 1;
+        Some(l)
     }
 }
 

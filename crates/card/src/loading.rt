@@ -10,7 +10,7 @@ ghost use Rattle.card.specs.Reading.{EntersLine};
 ghost use Rattle.card.specs.Outcomes.{loaded_of};
 
 use crate::CardError;
-use crate::lines::read_line;
+use crate::lines::Reader;
 use crate::verdict::{at_line, judge};
 use insertion::{enter, start};
 use records::renew;
@@ -26,7 +26,8 @@ fn first_line(w: &mut [u64], l: Option<Line>) -> Result<(), Refusal>
     start(w, l.second, l.third, l.fourth, l.first)
 }
 
-// A further line: its trial entered, with the front as it was. Refused by row 15, or 5 to 8.
+// A further line: its trial entered, with the front as it was. Refused by row 15, or 5 to 8. The slices lent to count in are five,
+// since insertion::enter takes them so.
 fn further_line(
     w: &mut [u64],
     l: Option<Line>,
@@ -55,7 +56,8 @@ fn further_line(
 pub fn read_card(w: &mut [u64], card: &[u8]) -> Result<u64, CardError>
     ensures { ReadInto (load w.old card.now) (loaded_of result) w.new }
 {
-    let first = read_line(card, 1).ok_or(CardError {
+    let mut reader = Reader::new(card, 1);
+    let first = reader.next().ok_or(CardError {
         refusal: Refusal::CardForm,
         line: 1,
     })?;
@@ -65,8 +67,7 @@ pub fn read_card(w: &mut [u64], card: &[u8]) -> Result<u64, CardError>
     let mut places = [0u16; 512];
     let mut column = [0u64; 512];
     let mut counts = [0u64; 512];
-    let mut line: usize = 2;
-    while let Some(l) = read_line(card, line) {
+    while let Some(l) = reader.next() {
         let entered = further_line(
             w,
             l,
@@ -76,11 +77,10 @@ pub fn read_card(w: &mut [u64], card: &[u8]) -> Result<u64, CardError>
             &mut column,
             &mut counts,
         );
-        at_line(entered, line as u64)?;
-        line += 1;
+        at_line(entered, (reader.line - 1) as u64)?;
     }
     renew(w);
-    Ok((line - 2) as u64)
+    Ok((reader.line - 2) as u64)
 }
 
 // Words that are enough for every capacity.

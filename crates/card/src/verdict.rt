@@ -31,13 +31,13 @@ fn number_at(card: &[u8], line: usize) -> Option<u64>
     Some(l.first)
 }
 
-// Whether one of the first `count` further lines has the number.
+// Whether one of the first `count` further lines has the number, which is no 0: a line that is not of the form has none.
 fn search(card: &[u8], count: usize, number: u64) -> bool
-    requires { count ≤ length card.now }
+    requires { (count ≤ length card.now) × (1 ≤ number) }
     ensures { result ≡ taken card.now count number }
 {
     for i in (0..count).rev() {
-        if number_at(card, i + 2).unwrap_or(0) == number {
+        if number_at(card, i + 2) == Some(number) {
             return true;
         }
     }
@@ -46,7 +46,7 @@ fn search(card: &[u8], count: usize, number: u64) -> bool
 
 // The same, where `met` says whether the number's bit was set by one of them: only then are they read for it.
 fn held(card: &[u8], count: usize, number: u64, met: bool) -> bool
-    requires { (count ≤ length card.now) × (met ≡ false → taken card.now count number ≡ false) }
+    requires { (count ≤ length card.now) × (1 ≤ number) × (met ≡ false → taken card.now count number ≡ false) }
     ensures { result ≡ taken card.now count number }
 {
     if !met {
@@ -88,6 +88,7 @@ fn judge_further(card: &[u8], s: Shape) -> Result<u64, CardError>
     ensures { loaded_of result ≡ answer_of (judge_further (empty (as_shape s)) (lines (drop 33 card.now))) }
 {
     let mut table = [0u64; 1024];
+    // Counted by hand: a line is judged by how many stand before it, and their number is the answer; a Reader's line is 2 or 3 more.
     let mut count: usize = 0;
     while let Some(l) = read_line(card, count + 2) {
         let line = count as u64 + 2;

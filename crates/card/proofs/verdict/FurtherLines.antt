@@ -1,5 +1,5 @@
 -- Laws of the further lines as they are judged: the search for a number, and the loop over them.
-use Prim.Native.Nat.{ℕ, ◌+◌, ◌-◌, ◌*◌, ◌≤◌, ◌<◌}
+use Prim.Native.Nat.{ℕ, zero, suc, ◌+◌, ◌-◌, ◌*◌, ◌≤◌, ◌<◌}
 use mathlib.Core.Path.{◌≡◌, refl, sym, ap, ◌∙◌}
 use mathlib.Core.Bool.{Bool, true, false, true≢false}
 use mathlib.Core.List.{List, ◌∷◌, []}
@@ -8,12 +8,14 @@ use native.Mathlib.Numerals.{add-one}
 use native.Mathlib.Omega.{arith}
 use lib.Dec.{eqb}
 use lib.ListN.{length, drop}
-use borrow.Author.Tests.{eq-eqb, ne_eqb}
-use Rattle.slices.specs.Choices.{either}
+use borrow.Author.Tests.{ne_eqb}
+use Rattle.std.specs.Prelude.{Option as StdOption, None, Some, unwrap_or}
+use Rattle.std.specs.Option.{option_eq}
+use Rattle.slices.specs.Choices.{either, both}
 use Rattle.hypervolume.proofs.Tests.{Equated, same, equated}
 use Rattle.text.specs.Lines.{Numbers}
 use Rattle.words.specs.Archive.{Shape, Archive, trials}
-use Rattle.words.specs.Format.{held}
+use Rattle.words.specs.Format.{held, within, number_allowed}
 use Rattle.words.specs.Table.{marked, Marking}
 use Rattle.calls.specs.Calls.{held_trials, empty, inserted, admission_rows}
 use Rattle.calls.proofs.Counted.{inserted_trials}
@@ -25,6 +27,16 @@ use Rattle.card.specs.Further.{number_due, taken, further_rows}
 use Rattle.card.proofs.CardLines.{inside, lines_due, no_lines_due}
 use Rattle.calls.proofs.Sound.{inserted_count}
 use Rattle.card.proofs.Verdicts.{in_turn_refused, in_turn_passed, answers_refusal}
+
+-- A number that is allowed is no 0, so a line without a number has another.
+pub positive : (n : ℕ) → true ≡ number_allowed n → 1 ≤ n
+unfolding number_allowed within both
+positive zero e = absurd (true≢false e)
+positive (suc n) e = omega arith
+
+pub found_number : (r : StdOption ℕ) (m : ℕ) {d : ℕ} → 1 ≤ m → unwrap_or r 0 ≡ d → option_eq eqb r (Some m) ≡ eqb d m
+found_number None m {d} l e = sym (ne_eqb d m (λ q. omega (arith, q, e)))
+found_number (Some n) m l e = rw (← e)
 
 -- One line more.
 taken_more : (card : List ℕ) (n m : ℕ) → taken card (n + 1) m ≡ either (eqb (number_due (due card (n + 2))) m) (taken card n m)
@@ -42,15 +54,15 @@ module _ (card : List ℕ) (count m i : ℕ) (s : Searched card count m i) where
       let one : i ≡ i - 1 + 1 = omega arith in
       s.left ∙ ap (λ k. taken card k m) one ∙ taken_more card (i - 1) m
 
-  pub searched_more : 0 < i → (number_due (due card (i - 1 + 2)) ≡ m → ⊥) → Searched card count m (i - 1)
+  pub searched_more : 0 < i → false ≡ eqb (number_due (due card (i - 1 + 2))) m → Searched card count m (i - 1)
   unfolding either
   searched_more l other =
       let within : i ≤ count = s.inside in
-      record { inside = omega arith; left = last_line l ∙ (rw (ne_eqb (number_due (due card (i - 1 + 2))) m other)) }
+      record { inside = omega arith; left = last_line l ∙ (rw (← other)) }
 
-  pub searched_stop : 0 < i → number_due (due card (i - 1 + 2)) ≡ m → true ≡ taken card count m
+  pub searched_stop : 0 < i → true ≡ eqb (number_due (due card (i - 1 + 2))) m → true ≡ taken card count m
   unfolding either
-  searched_stop l e = sym (last_line l ∙ (rw (eq-eqb (number_due (due card (i - 1 + 2))) m e)))
+  searched_stop l found = sym (last_line l ∙ (rw (← found)))
 
   pub searched_end : i ≤ 0 → false ≡ taken card count m
   unfolding taken

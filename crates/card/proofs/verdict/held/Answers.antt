@@ -3,4 +3,4 @@ use mathlib.Core.Path.{sym}
 use Rattle.card.proofs.verdict.held.Goals as goal
 
 pub returns-then-not-met : goal.returns-then-not-met
-returns-then-not-met c = sym (c.requires.1 (c.if-not-met.true))
+returns-then-not-met c = sym (c.requires.2 (c.if-not-met.true))
