@@ -4,7 +4,7 @@
 
 ghost use Rattle.std.specs.Prelude.{◌≡◌, ◌≤◌, length};
 
-use calls::{Answer, LeastAnswer};
+use calls::Answer;
 use refusals::Refusal;
 use testing::{at, one};
 
@@ -21,10 +21,10 @@ fn reduce_into(
 }
 
 // A reduction into a log of up to 15 words, which a refusal has to leave as it was; none where it did not.
-fn reduce(w: &mut [u64], row: [u64; 7]) -> Option<Answer> {
+fn reduce(w: &mut [u64], row: [u64; 7]) -> Option<Result<u64, Refusal>> {
     let mut log = [7u64; 15];
-    let a = reduce_into(w, row[1], row[3], &mut log, (row[2] % 16) as usize);
-    (a.is_ok() || testing::filled(&log, 0, 7)).then_some(Answer::from(a))
+    let drops = reduce_into(w, row[1], row[3], &mut log, (row[2] % 16) as usize);
+    (drops.is_ok() || testing::filled(&log, 0, 7)).then_some(drops)
 }
 
 // What a line of the script calls.
@@ -64,59 +64,44 @@ fn call_of(line: &[u8]) -> Option<Call> {
     }
 }
 
-// What is answered where there is nothing but a refusal to tell.
-fn done(outcome: Result<(), Refusal>) -> Answer {
-    Answer {
-        refusal: refusals::number(outcome),
-        value: 0,
-    }
-}
-
-fn accepted(value: u64) -> Answer {
-    Answer { refusal: 0, value }
-}
-
-fn put(w: &mut [u64], place: usize, value: u64) -> Answer {
-    testing::put(w, place, value);
-    accepted(0)
-}
-
 // The least contributor by a tie rule, as one number.
-fn least(w: &[u64], rule: u64) -> Answer {
-    let a = LeastAnswer::from(ask::least(w, rule));
-    Answer {
-        refusal: a.refusal,
-        value: a.number % 1000000000 * 1000000000 + a.contribution % 1000000000,
-    }
+fn least(w: &[u64], rule: u64) -> Result<u64, Refusal> {
+    let least = ask::least(w, rule)?;
+    Ok(least.number % 1000000000 * 1000000000 + least.contribution % 1000000000)
 }
 
-// The call's answer; none where it is never as it should be.
-fn answer(w: &mut [u64], call: Call, row: [u64; 7]) -> Option<Answer> {
-    match call {
-        Call::Begin => Some(done(insertion::start(w, row[2], row[3], row[4], row[1]))),
-        Call::Insert => Some(done(insertion::insert(w, row[1], row[2], row[3], row[4]))),
-        Call::Remove => Some(done(removal::remove(w, row[1]))),
-        Call::Drop => reduce(w, row),
-        Call::Put => Some(put(w, row[1] as usize, row[2])),
-        Call::Least => Some(least(w, row[1])),
-        Call::Joint => Some(Answer::from(ask::joint(w, row[1], row[2]))),
-        Call::Gain => Some(Answer::from(ask::gain(w, row[2], row[3], row[4]))),
-        Call::Share => Some(Answer::from(ask::share(w))),
-        Call::Audit => Some(Answer::from(ask::audit(w))),
-        Call::Word => Some(accepted(at(w, row[1] as usize))),
-        Call::Unknown => None,
-    }
+// What the call answers, 0 where it has nothing to answer; none where it is never as it should be.
+fn answer(w: &mut [u64], call: Call, row: [u64; 7]) -> Option<Result<u64, Refusal>> {
+    let found = match call {
+        Call::Begin => insertion::start(w, row[2], row[3], row[4], row[1]).map(|()| 0),
+        Call::Insert => insertion::insert(w, row[1], row[2], row[3], row[4]).map(|()| 0),
+        Call::Remove => removal::remove(w, row[1]).map(|()| 0),
+        Call::Drop => return reduce(w, row),
+        Call::Put => {
+            testing::put(w, row[1] as usize, row[2]);
+            Ok(0)
+        }
+        Call::Least => least(w, row[1]),
+        Call::Joint => ask::joint(w, row[1], row[2]),
+        Call::Gain => ask::gain(w, row[2], row[3], row[4]),
+        Call::Share => ask::share(w),
+        Call::Audit => ask::audit(w).map(u64::from),
+        Call::Word => Ok(at(w, row[1] as usize)),
+        Call::Unknown => return None,
+    };
+    Some(found)
 }
 
 // Whether the answer is the line's.
-fn says(a: Answer, row: [u64; 7]) -> bool {
+fn says(found: Result<u64, Refusal>, row: [u64; 7]) -> bool {
+    let a = Answer::from(found);
     a.refusal == row[5] && a.value == row[6]
 }
 
 fn lend(w: &mut [u64], n: usize, call: Call, row: [u64; 7]) -> bool
     requires { n ≤ length w.old }
 {
-    answer(&mut w[0..n], call, row).is_some_and(|a| says(a, row))
+    answer(&mut w[0..n], call, row).is_some_and(|found| says(found, row))
 }
 
 // Whether a call comes out as it should, and leaves all words as they were where it is refused.
