@@ -57,6 +57,7 @@ impl Point {
     }
 
     // The upper corner of two points.
+    #[tactic(auto, using(crate::proofs::Points::joined_more))]
     pub fn join(self, other: Point) -> Point
         ensures { result.at ≡ join self.at other.at }
     {

@@ -22,6 +22,7 @@ pub fn clear(w: &mut [u64], at: usize, n: usize)
 }
 
 // Copies all of `from` to `at` and behind it.
+#[tactic(auto, using(crate::proofs::Put::put_part))]
 pub fn copy(from: &[u64], w: &mut [u64], at: usize)
     requires { at + length from.now ≤ length w.old }
     ensures { w.new ≡ put w.old at from.now }

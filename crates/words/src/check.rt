@@ -53,7 +53,7 @@ pub fn number_allowed(n: u64) -> bool
 }
 
 // Row 6, and part of row 3.
-#[tactic(auto, unfolding(crate::specs::Format::coordinates_allowed))]
+#[tactic(auto, unfolding(crate::specs::Format::coordinates_allowed), using(crate::proofs::Passed::each_three))]
 pub fn coordinates_allowed(row: Row) -> bool
     ensures { result ≡ coordinates_allowed (as_row row).trial }
 {

