@@ -54,6 +54,11 @@ module _ {w starts : List ℕ} {i : ℕ} {out : List ℕ} (h : Loading w starts 
       (λ k b. h.there k (omega (arith, h.long)) ∙ sym (totals_at (length starts) k w (omega (arith, h.long))))
 
 -- A reference is words 2, 3 and 4.
+pub same_by_words : (a b : List ℕ) {yz all : Bool} → yz ≡ both (eqb (word a 3) (word b 3)) (eqb (word a 4) (word b 4))
+    → all ≡ both (eqb (word a 2) (word b 2)) yz → all ≡ same_reference (read a) (read b)
+unfolding same_reference read read_shape
+same_by_words a b e f = f ∙ ap (both (eqb (word a 2) (word b 2))) e
+
 words_of : (a : List ℕ) → 8 ≤ length a → take 3 (drop 2 a) ≡ word a 2 ∷ word a 3 ∷ word a 4 ∷ []
 words_of [] h = absurd (let no : ⊥ = omega arith in no)
 words_of (p ∷ []) h = absurd (let no : ⊥ = omega arith in no)
@@ -62,10 +67,11 @@ words_of (p ∷ q ∷ x ∷ []) h = absurd (let no : ⊥ = omega arith in no)
 words_of (p ∷ q ∷ x ∷ y ∷ []) h = absurd (let no : ⊥ = omega arith in no)
 words_of (p ∷ q ∷ x ∷ y ∷ z ∷ a) h = refl
 
-pub same_by_words : (a b : List ℕ) → 8 ≤ length a → 8 ≤ length b → {same : Bool} → same ≡ pointwise eqb (take 3 (drop 2 a)) (take 3 (drop 2 b)) → same ≡ same_reference (read a) (read b)
-unfolding same_reference read read_shape both
-same_by_words a b h k e =
-    e ∙ rw (words_of a h, words_of b k) (go (eqb (word a 2) (word b 2)) (eqb (word a 3) (word b 3)) (eqb (word a 4) (word b 4)))
+pub same_by_parts : (a b : List ℕ) → 8 ≤ length a → 8 ≤ length b → {same : Bool} → same ≡ pointwise eqb (take 3 (drop 2 a)) (take 3 (drop 2 b)) → same ≡ same_reference (read a) (read b)
+unfolding both
+same_by_parts a b h k e =
+    same_by_words a b refl
+    (e ∙ rw (words_of a h, words_of b k) (go (eqb (word a 2) (word b 2)) (eqb (word a 3) (word b 3)) (eqb (word a 4) (word b 4))))
   where
     go : (s t u : Bool) → (s && (t && (u && true))) ≡ both s (both t u)
     go true true true = refl

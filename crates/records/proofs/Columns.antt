@@ -83,3 +83,11 @@ length_rekept (r ∷ rows) (v ∷ vs) = ap suc (length_rekept rows vs)
 pub column_front : (k m n : ℕ) (w : List ℕ) → k < 5 → m ≤ n → fifths m (drop (8 + k) w) ≡ column k (take m (read_rows n (drop 8 w)))
 column_front k m n w l h =
     ap (fifths m) (sym (drop-drop k 8 w)) ∙ fifths_column k m (drop 8 w) l ∙ ap (column k) (sym (read_rows_take m n (drop 8 w) h))
+
+pub column_back : (k m n : ℕ) (w : List ℕ) → k < 5 → m < n → fifths (n - 1 - m) (drop (13 + 5 * m + k) w) ≡ column k (drop (suc m) (read_rows n (drop 8 w)))
+column_back k m n w l h =
+    let place : 13 + 5 * m + k ≡ 8 + 5 * suc m + k = omega arith in
+    let size : n - 1 - m ≡ n - suc m = omega arith in
+    ap₂ (λ c v. fifths c v) size (ap (λ i. drop i w) place ∙ sym (drop-drop k (8 + 5 * suc m) w))
+    ∙ fifths_column k (n - suc m) (drop (8 + 5 * suc m) w) l
+    ∙ ap (column k) (ap (read_rows (n - suc m)) (sym (drop-drop (5 * suc m) 8 w)) ∙ sym (read_rows_drop (suc m) n (drop 8 w) h))

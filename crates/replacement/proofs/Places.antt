@@ -7,9 +7,6 @@ use native.Mathlib.Nat.{le_trans}
 use native.Mathlib.Omega.{arith}
 use lib.ListN.{length, get_or}
 use lib.IntN.{ℤ, pos}
-use Rattle.refusals.specs.declared.Refusal.{Refusal}
-use Rattle.refusals.specs.Table.{number_of}
-use Rattle.refusals.proofs.Table.{number_positive}
 use Rattle.hypervolume.specs.Counts.{gain}
 use Rattle.hypervolume.proofs.Counting.{gain_le_box}
 use Rattle.words.specs.Archive.{Trial, point, trials, points}
@@ -72,10 +69,9 @@ change_done : (k : ℕ) (c d : ℤ) → k ≡ 0 → c ≡ d → record { refusal
 unfolding change
 change_done k c d e f = rw (e, f)
 
-pub effect_turned : (w : List ℕ) (n : ℕ) (t : Trial) (r : Refusal) → number_of r ≡ archive_rows w 0
-    → record { refusal = number_of r; difference = pos 0 } ≡ replace_effect w n t
+pub effect_turned : (w : List ℕ) (n : ℕ) (t : Trial) (r : ℕ) → r ≡ archive_rows w 0 → (r ≡ 0 → ⊥) → record { refusal = r; difference = pos 0 } ≡ replace_effect w n t
 unfolding replace_effect
-effect_turned w n t r e = change_refused _ (number_of r) _ (rows_refused w (number_of r) _ e (number_positive r)) (number_positive r)
+effect_turned w n t r e f = change_refused _ r _ (rows_refused w r _ e f) f
 
 module _ (w : List ℕ) (n : ℕ) (t : Trial) (p : archive_rows w 0 ≡ 0) where
   pub effect_absent : held n (held_trials (read w)) ≡ false → record { refusal = 9; difference = pos 0 } ≡ replace_effect w n t

@@ -8,9 +8,6 @@ use lib.Dec.{eqb}
 use borrow.Author.Tests.{eq-eqb, ne_eqb}
 use lib.ListN.{length}
 use Rattle.slices.specs.Choices.{both}
-use Rattle.refusals.specs.declared.Refusal.{Refusal}
-use Rattle.refusals.specs.Table.{number_of}
-use Rattle.refusals.proofs.Table.{number_positive}
 use Rattle.rounding.specs.Nearest.{nearest}
 use Rattle.words.specs.Archive.{Trial, Row, Archive}
 use Rattle.words.specs.Layout.{read, word}
@@ -22,16 +19,13 @@ use Rattle.calls.proofs.Answers.{guard_yes, guard_no, rows_refused, rows_passed,
 use Rattle.calls.proofs.Known.{known, Known, count_rows, box_filled}
 
 -- Rows 1 to 3 refuse.
-pub answer_turned : (w : List ℕ) (r : Refusal) (rest v : ℕ) → number_of r ≡ archive_rows w 0
-    → record { refusal = number_of r; value = 0 } ≡ answer (archive_rows w rest) v
-answer_turned w r rest v e =
-    answer_refused _ (number_of r) v (rows_refused w (number_of r) rest e (number_positive r)) (number_positive r)
+pub answer_turned : (w : List ℕ) (r rest v : ℕ) → r ≡ archive_rows w 0 → (r ≡ 0 → ⊥)
+    → record { refusal = r; value = 0 } ≡ answer (archive_rows w rest) v
+answer_turned w r rest v e n = answer_refused _ r v (rows_refused w r rest e n) n
 
-pub least_turned : (w : List ℕ) (rule : ℕ) (r : Refusal) → number_of r ≡ archive_rows w 0
-    → record { refusal = number_of r; number = 0; contribution = 0 } ≡ least w rule
+pub least_turned : (w : List ℕ) (rule r : ℕ) → r ≡ archive_rows w 0 → (r ≡ 0 → ⊥) → record { refusal = r; number = 0; contribution = 0 } ≡ least w rule
 unfolding least
-least_turned w rule r e =
-    least_refused _ (number_of r) _ (rows_refused w (number_of r) _ e (number_positive r)) (number_positive r)
+least_turned w rule r e n = least_refused _ r _ (rows_refused w r _ e n) n
 
 -- A row of the call's own turns it down; or none does.
 pub answer_row : (w : List ℕ) (r rest v : ℕ) → archive_rows w 0 ≡ 0 → rest ≡ suc r

@@ -29,7 +29,7 @@ use Rattle.card.specs.Verdict.{Verdict, refusal, archive, in_turn, judge_further
 use Rattle.card.specs.Reading.{EntersLine, row_15, of_the_form}
 use Rattle.card.proofs.CardLines.{Inside, lines_due, no_lines_due}
 use Rattle.card.proofs.Judging.{Fair, insert_rows_fair, inserted_fair, empty_fair, shape_passed, loads}
-use Rattle.card.proofs.Verdicts.{in_turn_refused, in_turn_passed}
+use Rattle.card.proofs.Verdicts.{few, in_turn_refused, in_turn_passed}
 
 -- A line that is not of the form, and the call that any other line makes.
 module _ (w : List ℕ) {l : StdOption Line} where
@@ -186,6 +186,9 @@ line_refused a (some v) ls k (of_the_form e) rows n =
     ∙ in_turn_refused k (length a.rows + 2) _ n
 
 module _ {card w₁ w : List ℕ} {line : ℕ} (r : Reading card w₁ line w) where
+  pub reading_few : line ≤ 514
+  reading_few = omega (arith, r.count, few r.so_far r.fair)
+
   pub reading_passes : archive_rows w 0 ≡ 0
   reading_passes = Stored.update_passes w₁ w r.so_far 0 r.fair.sound (omega arith) r.words
 

@@ -1,7 +1,8 @@
 -- `least` meets its contract: rows 1 to 3 refuse, or the inner function answers.
 use Rattle.std.proofs.lemmas.Result.{err_from_is_err_and}
+use Rattle.refusals.proofs.Table.{number_positive}
 use Rattle.ask.proofs.questions.Asking.{least_turned}
 use Rattle.ask.proofs.questions.least.Goals as goal
 
 pub returns-in_err-refusal : goal.returns-in_err-refusal
-returns-in_err-refusal c = let p = err_from_is_err_and c.from_residual.result c.from_residual.ensures.1 in rw (p.1, p.2) (least_turned _ _ _ c.in_err-refusal.ensures)
+returns-in_err-refusal c = let p = err_from_is_err_and c.from_residual.result c.from_residual.ensures.1 in rw (p.1, p.2) (least_turned _ _ _ c.in_err-refusal.ensures (number_positive _))
