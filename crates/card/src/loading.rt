@@ -4,8 +4,9 @@ ghost use Rattle.refusals.specs.Table.{outcome};
 ghost use Rattle.text.specs.Lines.{numbers_of};
 ghost use Rattle.words.specs.Format.{archive_rows};
 ghost use Rattle.ask.specs.RecordCounts.{Room};
-ghost use Rattle.card.specs.Card.{first_line, load, ReadInto};
+ghost use Rattle.card.specs.Card.{first_line, lines, load, ReadInto};
 ghost use Rattle.card.specs.Check.{packed, check};
+ghost use Rattle.card.specs.Verdict.{answer_of, judge};
 ghost use Rattle.card.specs.Reading.{EntersLine};
 ghost use Rattle.card.specs.Outcomes.{loaded_of};
 
@@ -100,8 +101,10 @@ pub fn load(w: &mut [u64], card: &[u8]) -> Result<u64, CardError>
 }
 
 // Checks the card: the count of trials, or a refusal and its line, which is one of the first 514.
+#[tactic(auto, unfolding(crate::specs::Check::packed), using(crate::proofs::loading::Judged::checked, crate::proofs::loading::Judged::line_few))]
 pub fn check(card: &[u8]) -> Result<u64, CardError>
     ensures answer { packed (loaded_of result) ≡ check card.now }
+    ensures count { loaded_of result ≡ answer_of (judge 2568 (lines card.now)) }
     ensures line { IfErr result (λ error. error.line ≤ 514) }
 {
     judge(card, 2568)

@@ -41,16 +41,17 @@ unfolding answer_of
 small (refusal n line) (verdicts.refused d) = small_row d
 small (archive a) (verdicts.accepted f) = (omega arith, omega arith)
 
-module _ (card : List ℕ) (r : Result ℕ CardError) (judged : loaded_of r ≡ answer_of (judge 2568 (lines card))) where
-  small_answer : ((loaded_of r).refusal ≤ 15) × ((loaded_of r).line ≤ 514)
+module _ (card : List ℕ) {r : Loaded} (judged : r ≡ answer_of (judge 2568 (lines card))) where
+  pub small_answer : (r.refusal ≤ 15) × (r.line ≤ 514)
   small_answer = rw judged (small (judge 2568 (lines card)) (verdicts.possible 2568 (lines card)))
 
+module _ (card : List ℕ) (r : Result ℕ CardError) (judged : loaded_of r ≡ answer_of (judge 2568 (lines card))) where
   pub checked : packed (loaded_of r) ≡ check card
   unfolding extent
   checked = ap packed judged ∙ sym (check_answer card)
 
   pub line_few : IfErr r (λ error. error.line ≤ 514)
-  line_few = at r small_answer.1
+  line_few = at r (small_answer card judged).1
     where
       at : (r : Result ℕ CardError) → (loaded_of r).line ≤ 514 → IfErr r (λ error. error.line ≤ 514)
       at (Ok count) l = tt
