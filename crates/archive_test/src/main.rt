@@ -108,10 +108,14 @@ fn lend(w: &mut [u64], n: usize, call: Call, row: [u64; 7]) -> bool
 fn holds(w: &mut [u64], call: Call, row: [u64; 7]) -> bool
     requires { length w.old ≡ 2568 }
 {
+    let n = (row[0] % 2569) as usize;
+    if row[5] == 0 {
+        return lend(w, n, call, row);
+    }
     let mut before = [0u64; 2568];
     slices::copy(w, &mut before, 0);
-    let right = lend(w, (row[0] % 2569) as usize, call, row);
-    right && (row[5] == 0 || &*w == before.as_slice())
+    let right = lend(w, n, call, row);
+    right && &*w == before.as_slice()
 }
 
 // How many lines come out as they should.

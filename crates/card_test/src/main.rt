@@ -6,7 +6,7 @@ ghost use Rattle.std.specs.Prelude.{◌≤◌, ◌<◌, length};
 
 use calls::Answer;
 use card::{CardError, Loaded};
-use testing::{at, first, one, part, print};
+use testing::{at, behind, first, one, part, print};
 
 // The answer as C has it: the refusal, the line refused and the count.
 fn same_answer(a: Loaded, row: [u64; 7]) -> bool {
@@ -136,11 +136,6 @@ fn scatter(bytes: &mut [u8])
     for k in 0..2056usize {
         text::put_number(bytes, 33 * (k / 4) + 8 * (k % 4), 8, value(k as u64));
     }
-}
-
-// The bytes from `from` on.
-fn behind(text: &[u8], from: usize) -> &[u8] {
-    text.get(from..).unwrap_or(&[])
 }
 
 // The kinds of line.

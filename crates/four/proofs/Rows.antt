@@ -1,18 +1,52 @@
 -- The rows of the call: the loop over the coordinates, and how the chain of rows ends.
-use Prim.Native.Nat.{ℕ, zero, suc, ◌+◌, ◌/◌, ◌%◌, ◌≤◌, ◌<◌}
-use mathlib.Core.Path.{◌≡◌, refl, sym, ◌∙◌}
-use mathlib.Core.Bool.{true, false, not}
-use mathlib.Core.List.{List}
+use Prim.Native.Nat.{ℕ, zero, suc, ◌+◌, ◌/◌, ◌%◌, ◌≤◌, ◌<◌, zero-le}
+use mathlib.Core.Path.{◌≡◌, refl, sym, ap, ◌∙◌}
+use mathlib.Core.Bool.{Bool, true, false, not}
+use mathlib.Core.List.{List, ◌∷◌, []}
+use native.Mathlib.Numerals.{add-one}
 use native.Mathlib.Omega.{arith}
-use lib.ListN.{length}
-use lib.Dec.{ltb, eqb}
-use borrow.Author.Tests.{lt-ltb, le-ltb, eq-eqb, ne_eqb, eqb-true, ltb-false, not-false}
+use lib.ListN.{length, drop, get_or, drop_of_length-le}
+use lib.Seq.{drop-cons}
+use lib.Dec.{leb, ltb, eqb}
+use borrow.Author.Tests.{le-leb, lt-leb, lt-ltb, le-ltb, eq-eqb, ne_eqb, eqb-true, ltb-false, not-false}
+use Rattle.slices.specs.Choices.{both}
 use Rattle.slices.specs.Put.{put}
+use Rattle.slices.proofs.Choices.{both_comm}
 use Rattle.words.specs.Format.{guard, within, each}
 use Rattle.words.proofs.Passed.{guard_none}
 use Rattle.sweep4.specs.Quadruples.{points_of, counts_of}
 use Rattle.sweep4.specs.Passing.{Readable}
 use Rattle.four.specs.Count4.{count4_rows, written_or, count4, counted4}
+
+-- The coordinates passed are allowed, so those left decide.
+pub record Judged (l : List ℕ) (i : ℕ) : Type 0 where
+  pub part : i ≤ length l
+  pub left : each (within 0 32768) l ≡ each (within 0 32768) (drop i l)
+
+pub judged_none : (l : List ℕ) → Judged l 0
+judged_none l = record { part = omega arith; left = refl }
+
+module _ {l : List ℕ} {i : ℕ} (h : Judged l i) where
+  next : i < length l → each (within 0 32768) l ≡ both (within 0 32768 (get_or l i 0)) (each (within 0 32768) (drop (i + 1) l))
+  unfolding each
+  next m = h.left ∙ rw (drop-cons l i 0 m, add-one i)
+
+  pub judged_found : i < length l → 32768 < get_or l i 0 → false ≡ each (within 0 32768) l
+  unfolding within both
+  judged_found m n =
+      sym (next m ∙ rw (lt-leb (get_or l i 0) 32768 n, both_comm (leb 0 (get_or l i 0)) false))
+
+  pub judged_more : i < length l → get_or l i 0 ≤ 32768 → Judged l (i + 1)
+  unfolding within both
+  judged_more m n =
+      record {
+        part = omega arith;
+        left = next m ∙ rw (le-leb 0 (get_or l i 0) zero-le, le-leb (get_or l i 0) 32768 n);
+      }
+
+  pub judged_end : length l ≤ i → true ≡ each (within 0 32768) l
+  unfolding each
+  judged_end m = sym (h.left ∙ rw (drop_of_length-le l m))
 
 -- Each way out in turn.
 module _ (r coords : List ℕ) (room : ℕ) where

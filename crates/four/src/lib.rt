@@ -3,11 +3,24 @@
 
 ghost use Rattle.std.specs.Prelude.{◌≡◌, ◌∷◌, []};
 ghost use Rattle.refusals.specs.Table.{outcome};
+ghost use Rattle.words.specs.Format.{within, each};
 ghost use Rattle.four.specs.Count4.{count4_rows, count4, counted4};
 
 use hypervolume::Point;
 use refusals::Refusal;
 use words::each_within;
+
+// Row 6. It ends at the first number that is too large: of many numbers, a refusal need not read on.
+fn coordinates_allowed(coords: &[u64]) -> bool
+    ensures { result ≡ each (within 0 32768) coords.now }
+{
+    for n in coords {
+        if 32768 < *n {
+            return false;
+        }
+    }
+    true
+}
 
 // Rows 4, 17, 20, 6 and 16, in this order.
 fn refusal(reference: &[u64], coords: &[u64], room: usize) -> Result<(), Refusal>
@@ -22,7 +35,7 @@ fn refusal(reference: &[u64], coords: &[u64], room: usize) -> Result<(), Refusal
     if 512 < coords.len() / 4 {
         return Err(Refusal::TooManyPoints);
     }
-    if !each_within(0, 32768, coords) {
+    if !coordinates_allowed(coords) {
         return Err(Refusal::BadCoordinate);
     }
     if room < coords.len() / 4 + 1 {

@@ -34,9 +34,14 @@ pub fn put(w: &mut [u64], i: usize, value: u64) {
     }
 }
 
+// The items from `from` on. (No `skip`: it passes one item after the other.)
+pub fn behind<T>(items: &[T], from: usize) -> &[T] {
+    items.get(from..).unwrap_or(&[])
+}
+
 // Whether the words from `from` on all have this value.
 pub fn filled(words: &[u64], from: usize, value: u64) -> bool {
-    words.iter().skip(from).all(|word| *word == value)
+    behind(words, from).iter().all(|word| *word == value)
 }
 
 // Prints both. Where a write fails, the output is not the one that is due, and that it is compared with.
@@ -91,7 +96,7 @@ fn past_word(text: &[u8], from: usize) -> usize {
 // The number of the digits from `from` on, up to 19 of them; 0 where there is none.
 fn number(text: &[u8], from: usize) -> u64 {
     let mut value: u64 = 0;
-    for byte in text.iter().skip(from) {
+    for byte in behind(text, from) {
         if !byte.is_ascii_digit() {
             return value;
         }

@@ -13,14 +13,14 @@ pub returns-then-coords-gt512 : goal.returns-then-coords-gt512
 returns-then-coords-gt512 c =
     row_20 _ _ _ (sym c.if-not-each_within.ensures) c.if-coords-ne0.false c.if-coords-gt512.true
 
-pub returns-then-not-each_within-2 : goal.returns-then-not-each_within-2
-returns-then-not-each_within-2 c =
-    row_6 _ _ _ (sym c.if-not-each_within.ensures) c.if-coords-ne0.false c.if-coords-gt512.false (sym c.if-not-each_within-2.ensures)
+pub returns-then-not-coordinates_allowed : goal.returns-then-not-coordinates_allowed
+returns-then-not-coordinates_allowed c =
+    row_6 _ _ _ (sym c.if-not-each_within.ensures) c.if-coords-ne0.false c.if-coords-gt512.false (sym c.if-not-coordinates_allowed.ensures)
 
 pub returns-then-room-coords : goal.returns-then-room-coords
 returns-then-room-coords c =
-    row_16 _ _ _ (sym c.if-not-each_within.ensures) c.if-coords-ne0.false c.if-coords-gt512.false (sym c.if-not-each_within-2.ensures) c.if-room-coords.true
+    row_16 _ _ _ (sym c.if-not-each_within.ensures) c.if-coords-ne0.false c.if-coords-gt512.false (sym c.if-not-coordinates_allowed.ensures) c.if-room-coords.true
 
 pub returns : goal.returns
 returns c =
-    no_row _ _ _ (sym c.if-not-each_within.ensures) c.if-coords-ne0.false c.if-coords-gt512.false (sym c.if-not-each_within-2.ensures) c.if-room-coords.false
+    no_row _ _ _ (sym c.if-not-each_within.ensures) c.if-coords-ne0.false c.if-coords-gt512.false (sym c.if-not-coordinates_allowed.ensures) c.if-room-coords.false
