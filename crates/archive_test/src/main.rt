@@ -104,12 +104,20 @@ fn lend(w: &mut [u64], n: usize, call: Call, row: [u64; 7]) -> bool
     answer(&mut w[0..n], call, row).is_some_and(|found| says(found, row))
 }
 
+// Whether the call is a question: it is lent the words to read alone, and cannot change them.
+fn asks(call: Call) -> bool {
+    match call {
+        Call::Least | Call::Joint | Call::Gain | Call::Share | Call::Audit | Call::Word => true,
+        _ => false,
+    }
+}
+
 // Whether a call comes out as it should, and leaves all words as they were where it is refused.
 fn holds(w: &mut [u64], call: Call, row: [u64; 7]) -> bool
     requires { length w.old ≡ 2568 }
 {
     let n = (row[0] % 2569) as usize;
-    if row[5] == 0 {
+    if row[5] == 0 || asks(call) {
         return lend(w, n, call, row);
     }
     let mut before = [0u64; 2568];

@@ -2,7 +2,7 @@
 // anywhere, a script of calls, standard input and printing. No other crate uses it.
 #![tactic(auto)]
 
-ghost use Rattle.std.specs.Prelude.{◌≡◌, ◌≤◌, ◌<◌, length};
+ghost use Rattle.std.specs.Prelude.{◌≡◌, ◌≤◌, ◌<◌, length, drop};
 
 use hypervolume::Point;
 use std::io::{Print, Read};
@@ -35,7 +35,9 @@ pub fn put(w: &mut [u64], i: usize, value: u64) {
 }
 
 // The items from `from` on. (No `skip`: it passes one item after the other.)
-pub fn behind<T>(items: &[T], from: usize) -> &[T] {
+pub fn behind<T>(items: &[T], from: usize) -> &[T]
+    ensures { result.now ≡ drop from items.now }
+{
     items.get(from..).unwrap_or(&[])
 }
 
