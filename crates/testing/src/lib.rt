@@ -73,10 +73,7 @@ pub fn first(words: &[u64], n: usize) -> &[u64] {
 
 // The n items from `from` on; none where there are not so many.
 pub fn part<T>(items: &[T], from: usize, n: usize) -> &[T] {
-    items
-        .get(from..)
-        .and_then(|rest| rest.get(..n))
-        .unwrap_or(&[])
+    behind(items, from).get(..n).unwrap_or(&[])
 }
 
 // A script has a line to a call: its name, then numbers, all parted by spaces.
